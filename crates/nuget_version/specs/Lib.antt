@@ -1,0 +1,9 @@
+pub mod Forms
+pub mod Grammar
+pub mod Marks
+pub mod Parts
+pub mod Precedence
+pub mod Printed
+pub mod ReadBack
+pub mod Refusals
+pub mod Walk

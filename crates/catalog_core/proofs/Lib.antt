@@ -1,0 +1,12 @@
+pub mod AllPages
+pub mod AllPuts
+pub mod DocNames
+pub mod Fronts
+pub mod Lists
+pub mod LookUps
+pub mod NewDocs
+pub mod OnePage
+pub mod Openings
+pub mod Readable
+pub mod RowData
+pub mod Vectors

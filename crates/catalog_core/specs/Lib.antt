@@ -1,0 +1,9 @@
+pub mod CatDocs
+pub mod Commits
+pub mod Documents
+pub mod Errors
+pub mod Hash
+pub mod Laws
+pub mod Members
+pub mod Names
+pub mod Opened

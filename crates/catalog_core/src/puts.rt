@@ -1,0 +1,116 @@
+// The puts of a commit.
+ghost use Rattle.std.specs.Prelude.{◌≡◌, [], ◌∷◌, ◌++◌, Some, false, IfOk, length, string_bytes};
+ghost use Rattle.blob_store.specs.declared.call.Call.TheVariants.{Put};
+ghost use Rattle.pkg_meta.specs.Catalog.{Staged, Stored};
+ghost use Rattle.pkg_meta.specs.Items.{published};
+ghost use Rattle.pkg_meta.specs.declared.item.Item.TheVariants as the;
+ghost use Rattle.catalog_core.specs.Commits.{place_puts};
+ghost use Rattle.catalog_core.specs.Documents.{head_of, index_text, page_text};
+ghost use Rattle.catalog_core.specs.Hash.{hash_text};
+ghost use Rattle.catalog_core.specs.Names.{index_name, page_name};
+
+use crate::hash::package_hash;
+use crate::head::PageHead;
+use crate::index::index_bytes;
+use crate::leaf::details_bytes;
+use crate::names::{INDEX_NAME, leaf_name, nupkg_name, nuspec_name, page_name};
+use crate::page::page_bytes;
+use crate::row::Row;
+use blob_store::Call;
+use pkg_meta::{Bytes, Details, Meta, NoMemory, Text, Ticks};
+use std::alloc::Global;
+
+/// The item of a publish at a place of a commit.
+pub(crate) fn publish_details(
+    alloc: Global,
+    meta: &Meta,
+    nupkg: &Bytes,
+    number: u32,
+    place: u32,
+    stamp: Ticks,
+) -> Result<Details, NoMemory>
+    ensures { IfOk result (λ d. d ≡ published meta.now number place stamp (length nupkg.now) (hash_text nupkg.now)) }
+{
+    let size = nupkg.as_slice().len() as u64;
+    let hash = package_hash(alloc, nupkg.as_slice())?;
+    let meta = meta.copy(alloc)?;
+    Ok(Details::published(meta, number, place, stamp, size, hash))
+}
+
+/// The row of a publish.
+pub(crate) fn publish_row(
+    alloc: Global,
+    number: u32,
+    place: u32,
+    stamp: Ticks,
+    details: &Details,
+) -> Result<Row, NoMemory>
+    ensures { IfOk result (λ r. r ≡ record { number = number; place = place; stamp = stamp; id = details.now.meta.id; version = details.now.meta.version; gone = false }) }
+{
+    Ok(Row {
+        number,
+        place,
+        stamp,
+        id: details.meta.id.copy(alloc)?,
+        version: details.meta.version.copy(alloc)?,
+        gone: false,
+    })
+}
+
+fn put(alloc: Global, name: String, bytes: &[u8]) -> Result<Call, NoMemory>
+    ensures { IfOk result (λ call. call ≡ Put (string_bytes name) bytes.now) }
+{
+    Ok(Call::Put {
+        name: Text::of(name),
+        bytes: Bytes::copy_of(alloc, bytes)?,
+    })
+}
+
+/// What a publish puts at its place: the package, the manifest, the leaf.
+pub(crate) fn place_calls(
+    alloc: Global,
+    base: &str,
+    details: &Details,
+    nuspec: &Bytes,
+    nupkg: &Bytes,
+) -> Result<Vec<Call>, NoMemory>
+    ensures { IfOk result (λ calls. calls.items ≡ place_puts base.now details.now.origin_number details.now.created details.now.origin_place (the.Details details.now ∷ []) (Some (record { nuspec = nuspec.now; nupkg = nupkg.now }) ∷ [])) }
+{
+    let number = details.origin_number;
+    let place = details.origin_place;
+    let leaf = details_bytes(alloc, base, number, place, details.created, details)?;
+    let mut calls = Vec::new(alloc);
+    calls.push(put(alloc, nupkg_name(alloc, number, place)?, nupkg.as_slice())?)?;
+    calls.push(put(alloc, nuspec_name(alloc, number, place)?, nuspec.as_slice())?)?;
+    calls.push(put(alloc, leaf_name(alloc, number, place)?, leaf.as_slice())?)?;
+    Ok(calls)
+}
+
+/// The put of a page with these rows.
+pub(crate) fn page_call(
+    alloc: Global,
+    base: &str,
+    page: u32,
+    rows: &[Row],
+) -> Result<Call, NoMemory>
+    ensures { IfOk result (λ call. call ≡ Put (page_name page) (page_text base.now page rows.now)) }
+{
+    let name = page_name(alloc, page)?;
+    let bytes = page_bytes(alloc, base, page, rows)?;
+    Ok(Call::Put {
+        name: Text::of(name),
+        bytes,
+    })
+}
+
+/// The put of the index of one page.
+pub(crate) fn index_call(alloc: Global, base: &str, head: PageHead) -> Result<Call, NoMemory>
+    ensures { IfOk result (λ call. call ≡ Put index_name (index_text base.now (head ∷ []))) }
+{
+    let name = String::from_str(alloc, INDEX_NAME)?;
+    let bytes = index_bytes(alloc, base, &[head])?;
+    Ok(Call::Put {
+        name: Text::of(name),
+        bytes,
+    })
+}

@@ -1,0 +1,5 @@
+pub mod Causes
+pub mod Cuts
+pub mod Endings
+pub mod Plain
+pub mod Single

@@ -1,0 +1,6 @@
+pub mod Body
+pub mod Committed
+pub mod Cuts
+pub mod Lines
+pub mod Reasons
+pub mod Words

@@ -1,0 +1,18 @@
+//! The top calls of the feed: what the program does, but for the making of its stores, streams and clock.
+#![tactic(auto)]
+
+mod answer;
+mod body;
+mod command;
+mod cut;
+mod input;
+mod meta;
+mod publish;
+#[cfg(test)]
+mod tests;
+mod words;
+
+pub use answer::Answer;
+pub use catalog_core::Stores;
+pub use command::run_command;
+pub use feed_base::Status;

@@ -1,0 +1,175 @@
+// Reading bare metadata.
+ghost use Rattle.std.specs.Prelude.{◌≡◌, ◌∷◌, ◌++◌, ◌<◌, ◌≤◌, ◌^◌, ◌↔◌, ℕ, List, [], IsTrue, IfOk, IfSome, IfNone, MatchOption, string_bytes};
+ghost use Rattle.feed_app.specs.Body.{IsBare, triple};
+ghost use Rattle.feed_app.specs.Cuts.{AreVersionNumbers, IsFree, IsBareVersion, IsPlain, bare, joined};
+ghost use Rattle.package_id.specs.Ids.{IsShortId};
+ghost use Rattle.nuget_version.specs.declared.version.Version.{Version};
+ghost use Rattle.feed_app.specs.declared.cut.Three.{Three};
+ghost use Rattle.pkg_meta.specs.declared.meta.Meta.{Meta};
+
+use crate::cut::{Three, cut, text_of, three_numbers};
+use package_id::IdErr;
+use pkg_meta::{Meta, NoMemory, PackageId, Text, Version};
+use std::alloc::Global;
+
+// The texts of bare metadata.
+#[derive(Clone, Copy)]
+struct Fields<'a> {
+    id: &'a [u8],
+    verbatim: &'a [u8],
+}
+
+// What stands behind the prefix.
+fn behind<'a>(bytes: &'a [u8], prefix: &[u8]) -> Option<&'a [u8]>
+    ensures { MatchOption result ((rest : List ℕ) → bytes.now ≡ prefix.now ++ rest → ⊥)
+        (λ rest. bytes.now ≡ prefix.now ++ rest.now) }
+{
+    bytes.strip_prefix(prefix)
+}
+
+// What stands before the suffix.
+fn before<'a>(bytes: &'a [u8], suffix: &[u8]) -> Option<&'a [u8]>
+    ensures { MatchOption result ((front : List ℕ) → bytes.now ≡ front ++ suffix.now → ⊥)
+        (λ front. bytes.now ≡ front.now ++ suffix.now) }
+{
+    bytes.strip_suffix(suffix)
+}
+
+// The texts of the metadata; the id's grammar and the version's are read later.
+fn cut_meta(bytes: &[u8]) -> Option<Fields<'_>>
+    ensures found { IfSome result (λ p. bytes.now ≡ bare p.id.now p.verbatim.now) }
+    ensures exact { (id verbatim : List ℕ) → IsFree 34 id → bytes.now ≡ bare id verbatim
+        → MatchOption result ⊥ (λ p. (p.id.now ≡ id) × (p.verbatim.now ≡ verbatim)) }
+{
+    let inner = behind(bytes, b"{\"id\":\"")?;
+    let id = cut(inner, b'"')?;
+    let rest = behind(id.back, b",\"version\":\"")?;
+    let verbatim = before(rest, b"\"}")?;
+    Some(Fields {
+        id: id.front,
+        verbatim,
+    })
+}
+
+// The id, where the bytes are one.
+fn read_id(alloc: Global, bytes: &[u8]) -> Result<Option<PackageId>, NoMemory>
+    ensures found { IfOk result (λ o. IfSome o (λ id. id.text ≡ bytes.now)) }
+    ensures none { IfOk result (λ o. IfNone o (¬ IsShortId bytes.now)) }
+{
+    let Some(text) = text_of(bytes) else {
+        return Ok(None);
+    };
+    match PackageId::parse(alloc, text) {
+        Ok(id) => Ok(Some(id)),
+        Err(IdErr::Memory) => Err(NoMemory),
+        Err(_) => Ok(None),
+    }
+}
+
+fn print_triple(alloc: Global, three: Three) -> Result<Text, NoMemory>
+    ensures { IfOk result (λ t. t ≡ triple three.first three.second three.third) }
+{
+    let Three {
+        first,
+        second,
+        third,
+    } = three;
+    Ok(Text::of(format!(in alloc; "{first}.{second}.{third}")?))
+}
+
+fn are_version_numbers(three: Three) -> bool
+    ensures { IsTrue result ↔ AreVersionNumbers three }
+{
+    three.first <= 2_147_483_647 && three.second <= 2_147_483_647 && three.third <= 2_147_483_647
+}
+
+fn no_text(alloc: Global) -> Text
+    ensures { result ≡ [] }
+{
+    Text::of(String::new(alloc))
+}
+
+// The version of three numbers alone.
+fn make_version(alloc: Global, three: Three) -> Version
+    requires { AreVersionNumbers three }
+    ensures { IsPlain result three.first three.second three.third }
+{
+    Version {
+        major: three.first,
+        minor: three.second,
+        patch: three.third,
+        revision: 0,
+        labels: no_text(alloc),
+        meta: no_text(alloc),
+    }
+}
+
+// The numbers of a version where three were written; other texts may be read too.
+fn read_numbers(bytes: &[u8]) -> Option<Three>
+    ensures small { IfSome result AreVersionNumbers }
+    ensures exact { (t : Three) → AreVersionNumbers t → bytes.now ≡ joined 46 t.first t.second t.third → result ≡ Some t }
+{
+    let three = three_numbers(bytes, b'.')?;
+    if are_version_numbers(three) {
+        Some(three)
+    } else {
+        None
+    }
+}
+
+// The numbers' text, where it is the one given.
+fn spell(alloc: Global, bytes: &[u8], three: Three) -> Result<Option<Text>, NoMemory>
+    ensures found { IfOk result (λ o. IfSome o (λ t. (t ≡ bytes.now) × (bytes.now ≡ triple three.first three.second three.third))) }
+    ensures none { IfOk result (λ o. IfNone o (bytes.now ≡ triple three.first three.second three.third → ⊥)) }
+{
+    let text = print_triple(alloc, three)?;
+    if text.as_bytes() == bytes {
+        Ok(Some(text))
+    } else {
+        Ok(None)
+    }
+}
+
+// A version and its text.
+#[derive(Drop)]
+struct Spelled {
+    version: Version,
+    verbatim: Text,
+}
+
+// The version of three numbers alone that the text spells.
+fn read_version(alloc: Global, bytes: &[u8]) -> Result<Option<Spelled>, NoMemory>
+    ensures found { IfOk result (λ o. IfSome o (λ s. (s.verbatim ≡ bytes.now) × IsBareVersion bytes.now s.version)) }
+    ensures none { IfOk result (λ o. IfNone o ((v : Version) → IsBareVersion bytes.now v → ⊥)) }
+{
+    let Some(three) = read_numbers(bytes) else {
+        return Ok(None);
+    };
+    let Some(verbatim) = spell(alloc, bytes, three)? else {
+        return Ok(None);
+    };
+    let version = make_version(alloc, three);
+    Ok(Some(Spelled { version, verbatim }))
+}
+
+/// Reads bare metadata, and answers nothing where it is none.
+pub(crate) fn read_meta(alloc: Global, bytes: &[u8]) -> Result<Option<Meta>, NoMemory>
+    ensures found { IfOk result (λ o. IfSome o (λ m. IsBare bytes.now m)) }
+    ensures none { IfOk result (λ o. IfNone o ((m : Meta) → IsBare bytes.now m → ⊥)) }
+{
+    let Some(fields) = cut_meta(bytes) else {
+        return Ok(None);
+    };
+    let Some(id) = read_id(alloc, fields.id)? else {
+        return Ok(None);
+    };
+    let Some(spelled) = read_version(alloc, fields.verbatim)? else {
+        return Ok(None);
+    };
+    let Spelled { version, verbatim } = spelled;
+    Ok(Some(Meta {
+        id,
+        version,
+        verbatim,
+    }))
+}

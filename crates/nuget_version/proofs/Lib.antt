@@ -1,0 +1,14 @@
+pub mod Accepted
+pub mod Compared
+pub mod Dotted
+pub mod Fields
+pub mod Forms
+pub mod Found
+pub mod Fronts
+pub mod Lengths
+pub mod Numbers
+pub mod OneAnswer
+pub mod OneValue
+pub mod Order
+pub mod ReadBack
+pub mod Spelled

@@ -1,0 +1,124 @@
+// Reading a version.
+ghost use Rattle.std.specs.Prelude.{◌≡◌, ℕ, ◌≤◌, ◌<◌, ◌+◌, IfErr, IfOk, length};
+ghost use Rattle.std.specs.Option.{ForSome};
+ghost use Rattle.std.specs.Str.{IsAscii};
+ghost use Rattle.std.specs.Fmt.{decimal};
+ghost use Rattle.nuget_version.specs.Grammar.{Spells};
+ghost use Rattle.nuget_version.specs.Parts.{full_of, marked, numbers_of};
+ghost use Rattle.nuget_version.specs.Refusals.{IsRefused};
+ghost use Rattle.nuget_version.specs.Walk.{IsFoundIn, behind_of};
+ghost use Rattle.nuget_version.specs.declared.version.Version.{Version};
+
+use crate::errors::VersionErr;
+use crate::values::Text;
+use crate::version::Version;
+use crate::walk::{Found, walk};
+use std::alloc::Global;
+
+// The most bytes of a version's text, and of its full form.
+const MOST: usize = 64;
+
+impl Version {
+    /// Reads a version: one to four numbers joined by dots, where missing ones are 0 and leading
+    /// zeros don't count, then labels behind `-`, then metadata behind `+` (SemVer 2.0.0, sections
+    /// 9 and 10). A text and its full form have at most 64 bytes, a number is at most 2147483647.
+    pub fn parse(alloc: Global, text: &str) -> Result<Version, VersionErr>
+        ensures ok { IfOk result (λ v. Spells text.now v) }
+        ensures refused { IfErr result (λ e. IsRefused text.now e) }
+        ensures accepts { (v : Version) → Spells text.now v → IfErr result (λ e. e ≡ VersionErr.Memory) }
+    {
+        let found = checked(text)?;
+        let labels = behind(text, found.dash, found.plus.unwrap_or(text.len()));
+        let meta = behind(text, found.plus, text.len());
+        let len = numbers_len(&found) + marked_len(labels) + marked_len(meta);
+        if len > MOST {
+            return Err(VersionErr::TooLong(len as u64));
+        }
+        let labels = Text::copy_of(alloc, labels)?;
+        let meta = Text::copy_of(alloc, meta)?;
+        Ok(Version {
+            major: found.major.value,
+            minor: found.minor.value,
+            patch: found.patch.value,
+            revision: found.revision.value,
+            labels,
+            meta,
+        })
+    }
+}
+
+// The refusals that come before the full form's.
+fn checked(text: &str) -> Result<Found, VersionErr>
+    ensures found { IfOk result (λ f. IsFoundIn text.now f) }
+    ensures refused { IfErr result (λ e. IsRefused text.now e) }
+    ensures none { IfErr result (λ e. (v : Version) → Spells text.now v → ⊥) }
+{
+    if text.is_empty() {
+        return Err(VersionErr::Empty);
+    }
+    if text.len() > MOST {
+        return Err(VersionErr::TooLong(text.len() as u64));
+    }
+    let found = match walk(text.as_bytes()) {
+        Ok(found) => found,
+        Err(at) => return Err(VersionErr::BadByte(at as u64)),
+    };
+    match found.too_big() {
+        Some(at) => Err(VersionErr::NumberTooBig(at as u64)),
+        None => Ok(found),
+    }
+}
+
+// The text between a mark and this end, and nothing without a mark.
+fn behind(text: &str, mark: Option<usize>, end: usize) -> &str
+    requires ascii { IsAscii text.now }
+    requires before { ForSome mark (λ at. at < end) }
+    requires within { end ≤ length text.now }
+    ensures value { result.now ≡ behind_of text.now mark end }
+    ensures fits { length result.now ≤ length text.now }
+{
+    match mark {
+        Some(at) => &text[at + 1..end],
+        None => "",
+    }
+}
+
+// How many bytes the printed number has.
+fn digits_len(number: u32) -> usize
+    ensures value { result ≡ length (decimal number) }
+    ensures small { result ≤ 10 }
+{
+    let mut left = number;
+    let mut len = 1;
+    while left >= 10 {
+        left /= 10;
+        len += 1;
+    }
+    len
+}
+
+// How many bytes the printed numbers have.
+fn numbers_len(found: &Found) -> usize
+    ensures value { result
+        ≡ length (numbers_of found.now.major.value found.now.minor.value found.now.patch.value found.now.revision.value) }
+    ensures small { result ≤ 43 }
+{
+    let three = digits_len(found.major.value)
+        + digits_len(found.minor.value)
+        + digits_len(found.patch.value)
+        + 2;
+    if found.revision.value == 0 {
+        three
+    } else {
+        three + 1 + digits_len(found.revision.value)
+    }
+}
+
+// How many bytes a text behind its mark has.
+fn marked_len(text: &str) -> usize
+    requires { length text.now ≤ 64 }
+    ensures value { (mark : ℕ) → result ≡ length (marked mark text.now) }
+    ensures small { result ≤ 65 }
+{
+    if text.is_empty() { 0 } else { text.len() + 1 }
+}

@@ -1,0 +1,4 @@
+pub mod Walk
+pub mod Fronts
+pub mod Bytes
+pub mod Reasons

@@ -1,0 +1,12 @@
+pub mod Trims
+pub mod Edges
+pub mod Refused
+pub mod Precedences
+pub mod Forms
+pub mod Plain
+pub mod Spaced
+pub mod Sound
+pub mod Complete
+pub mod OneRange
+pub mod ReadBack
+pub mod Reasons
