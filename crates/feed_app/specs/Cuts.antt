@@ -1,5 +1,5 @@
 -- The pieces that a publish's body is cut into.
-use Rattle.std.specs.Prelude.{◌≡◌, ◌==◌, ℕ, List, [], ◌∷◌, ◌++◌, ◌<◌, ◌≤◌, ◌^◌, length, codes, decimal, not, IsTrue}
+use Rattle.std.specs.Prelude.{◌≡◌, ◌==◌, ℕ, List, [], ◌∷◌, ◌++◌, ◌<◌, ◌^◌, length, codes, decimal, not, IsTrue}
 use Rattle.std.specs.List.{list_all}
 use Rattle.nuget_version.specs.declared.version.Version.{Version}
 use Rattle.feed_app.specs.Body.{triple}
@@ -29,12 +29,6 @@ pub record IsHeader (text : List ℕ) (lens : Three) : Type 0 where
   pub nuspec_fits : lens.second < 10 ^ 8
   pub nupkg_fits : lens.third < 10 ^ 8
 
--- each is a number that a version may have
-pub record AreVersionNumbers (t : Three) : Type 0 where
-  pub first : t.first ≤ 2147483647
-  pub second : t.second ≤ 2147483647
-  pub third : t.third ≤ 2147483647
-
 -- the first three are the others
 abbrev pub AreParts : List ℕ → List ℕ → List ℕ → List ℕ → List ℕ → List ℕ → Type 0
 AreParts a b c meta nuspec nupkg = (a ≡ meta) × (b ≡ nuspec) × (c ≡ nupkg)
@@ -43,11 +37,8 @@ AreParts a b c meta nuspec nupkg = (a ≡ meta) × (b ≡ nuspec) × (c ≡ nupk
 abbrev pub bare : List ℕ → List ℕ → List ℕ
 bare id verbatim = codes "{\"id\":\"" ++ (id ++ (codes "\",\"version\":\"" ++ (verbatim ++ codes "\"}")))
 
--- a version of these three numbers alone
-pub record IsPlain (v : Version) (a b c : ℕ) : Type 0 where
-  pub major : v.major ≡ a
-  pub minor : v.minor ≡ b
-  pub patch : v.patch ≡ c
+-- a version of three numbers alone
+pub record IsPlain (v : Version) : Type 0 where
   pub revision : v.revision ≡ 0
   pub labels : v.labels ≡ []
   pub meta : v.meta ≡ []

@@ -1,13 +1,15 @@
 // Reading bare metadata.
-ghost use Rattle.std.specs.Prelude.{◌≡◌, ◌∷◌, ◌++◌, ◌<◌, ◌≤◌, ◌^◌, ◌↔◌, ℕ, List, [], IsTrue, IfOk, IfSome, IfNone, MatchOption, string_bytes};
+ghost use Rattle.std.specs.Prelude.{◌≡◌, ◌≢◌, ◌∷◌, ◌++◌, ◌<◌, ◌≤◌, ◌^◌, ◌↔◌, ℕ, List, [], IsTrue, IfOk, IfSome, IfNone, IsNone, MatchOption, string_bytes};
 ghost use Rattle.feed_app.specs.Body.{IsBare, triple};
-ghost use Rattle.feed_app.specs.Cuts.{AreVersionNumbers, IsFree, IsBareVersion, IsPlain, bare, joined};
+ghost use Rattle.feed_app.specs.Cuts.{IsFree, IsBareVersion, IsPlain, bare, three};
+ghost use Rattle.nuget_version.specs.Grammar.{Spells};
 ghost use Rattle.package_id.specs.Ids.{IsShortId};
 ghost use Rattle.nuget_version.specs.declared.version.Version.{Version};
 ghost use Rattle.feed_app.specs.declared.cut.Three.{Three};
 ghost use Rattle.pkg_meta.specs.declared.meta.Meta.{Meta};
 
-use crate::cut::{Three, cut, text_of, three_numbers};
+use crate::cut::{Three, cut, text_of};
+use nuget_version::VersionErr;
 use package_id::IdErr;
 use pkg_meta::{Meta, NoMemory, PackageId, Text, Version};
 use std::alloc::Global;
@@ -66,6 +68,47 @@ fn read_id(alloc: Global, bytes: &[u8]) -> Result<Option<PackageId>, NoMemory>
     }
 }
 
+// The three numbers of a version.
+fn three_of(version: &Version) -> Three
+    ensures { result ≡ three version.now.major version.now.minor version.now.patch }
+{
+    Three {
+        first: version.major,
+        second: version.minor,
+        third: version.patch,
+    }
+}
+
+// Whether a version has three numbers alone.
+fn is_plain(version: &Version) -> bool
+    ensures { IsTrue result ↔ IsPlain version.now }
+{
+    version.revision == 0
+        && version.labels.as_bytes().is_empty()
+        && version.meta.as_bytes().is_empty()
+}
+
+// The version that a text spells.
+fn parse_version(alloc: Global, text: &str) -> Result<Option<Version>, NoMemory>
+    ensures found { IfOk result (λ o. IfSome o (λ v. Spells text.now v)) }
+    ensures none { IfOk result (λ o. IfNone o ((v : Version) → Spells text.now v → ⊥)) }
+{
+    match Version::parse(alloc, text) {
+        Ok(version) => Ok(Some(version)),
+        Err(error) => refused(error),
+    }
+}
+
+// No version, unless memory was wanted.
+fn refused(error: VersionErr) -> Result<Option<Version>, NoMemory>
+    ensures { IfOk result (λ o. (error ≢ VersionErr.Memory) × IsNone o) }
+{
+    match error {
+        VersionErr::Memory => Err(NoMemory),
+        _ => Ok(None),
+    }
+}
+
 fn print_triple(alloc: Global, three: Three) -> Result<Text, NoMemory>
     ensures { IfOk result (λ t. t ≡ triple three.first three.second three.third) }
 {
@@ -75,46 +118,6 @@ fn print_triple(alloc: Global, three: Three) -> Result<Text, NoMemory>
         third,
     } = three;
     Ok(Text::of(format!(in alloc; "{first}.{second}.{third}")?))
-}
-
-fn are_version_numbers(three: Three) -> bool
-    ensures { IsTrue result ↔ AreVersionNumbers three }
-{
-    three.first <= 2_147_483_647 && three.second <= 2_147_483_647 && three.third <= 2_147_483_647
-}
-
-fn no_text(alloc: Global) -> Text
-    ensures { result ≡ [] }
-{
-    Text::of(String::new(alloc))
-}
-
-// The version of three numbers alone.
-fn make_version(alloc: Global, three: Three) -> Version
-    requires { AreVersionNumbers three }
-    ensures { IsPlain result three.first three.second three.third }
-{
-    Version {
-        major: three.first,
-        minor: three.second,
-        patch: three.third,
-        revision: 0,
-        labels: no_text(alloc),
-        meta: no_text(alloc),
-    }
-}
-
-// The numbers of a version where three were written; other texts may be read too.
-fn read_numbers(bytes: &[u8]) -> Option<Three>
-    ensures small { IfSome result AreVersionNumbers }
-    ensures exact { (t : Three) → AreVersionNumbers t → bytes.now ≡ joined 46 t.first t.second t.third → result ≡ Some t }
-{
-    let three = three_numbers(bytes, b'.')?;
-    if are_version_numbers(three) {
-        Some(three)
-    } else {
-        None
-    }
 }
 
 // The numbers' text, where it is the one given.
@@ -142,14 +145,19 @@ fn read_version(alloc: Global, bytes: &[u8]) -> Result<Option<Spelled>, NoMemory
     ensures found { IfOk result (λ o. IfSome o (λ s. (s.verbatim ≡ bytes.now) × IsBareVersion bytes.now s.version)) }
     ensures none { IfOk result (λ o. IfNone o ((v : Version) → IsBareVersion bytes.now v → ⊥)) }
 {
-    let Some(three) = read_numbers(bytes) else {
+    let Some(text) = text_of(bytes) else {
         return Ok(None);
     };
-    let Some(verbatim) = spell(alloc, bytes, three)? else {
+    let Some(version) = parse_version(alloc, text)? else {
         return Ok(None);
     };
-    let version = make_version(alloc, three);
-    Ok(Some(Spelled { version, verbatim }))
+    if !is_plain(&version) {
+        return Ok(None);
+    }
+    match spell(alloc, bytes, three_of(&version))? {
+        Some(verbatim) => Ok(Some(Spelled { version, verbatim })),
+        None => Ok(None),
+    }
 }
 
 /// Reads bare metadata, and answers nothing where it is none.
