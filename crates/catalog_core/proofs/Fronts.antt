@@ -1,8 +1,8 @@
 -- One change, and a run of puts that hasn't begun.
-use Rattle.std.proofs.Common.{◌≡◌, ◌≤◌, List, [], ◌∷◌, length, slice_get, take, Option, Some, IfSome, ap, arith, refl}
+use Rattle.std.proofs.Common.{◌≡◌, List, [], ◌∷◌, length, slice_get, Option, Some, IfSome, ap, arith, refl}
 use Rattle.feed_base.proofs.Options.{intro}
 use Rattle.blob_store.specs.Area.{Area}
-use Rattle.blob_store.specs.Runs.{after_calls, IsAfterSome}
+use Rattle.blob_store.specs.Runs.{IsAfterSome}
 use Rattle.blob_store.specs.declared.call.Call.{Call}
 use Rattle.catalog_core.specs.declared.change.Change.{Change}
 

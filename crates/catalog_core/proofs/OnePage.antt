@@ -21,7 +21,7 @@ use Rattle.catalog_core.proofs.DocNames.{page_name-not_index}
 use Rattle.catalog_core.proofs.LookUps.{hit, past_index}
 use Rattle.catalog_core.proofs.RowData.{nth_text, page_text-tells, RowsFit}
 
-length-rows_from : (number stamp place : ℕ) (items : List Item) → length (rows_from number stamp place items) ≡ length items
+pub length-rows_from : (number stamp place : ℕ) (items : List Item) → length (rows_from number stamp place items) ≡ length items
 length-rows_from number stamp place [] = refl
 length-rows_from number stamp place (it ∷ items) = ap suc (length-rows_from number stamp (suc place) items)
 
@@ -43,7 +43,7 @@ one_page front (c ∷ cs) few =
     ∙ one_page (front ++ c ∷ []) cs (subst (λ (all : Catalog). length (all_rows all) ≤ page_room) (sym regrouped) few)
     ∙ ap (λ (page : Catalog). page ∷ []) regrouped
 
-its_page : (c : Stored) (cs : Catalog) → length (all_rows (c ∷ cs)) ≤ page_room → pages_of (c ∷ cs) ≡ (c ∷ cs) ∷ []
+pub its_page : (c : Stored) (cs : Catalog) → length (all_rows (c ∷ cs)) ≤ page_room → pages_of (c ∷ cs) ≡ (c ∷ cs) ∷ []
 its_page c cs few = one_page (c ∷ []) cs few
 
 rows_fit : (number stamp place : ℕ) (items : List Item) → number < 2 ^ 64 → stamp ≤ 3_155_378_975_999_999_999 → place + length items ≤ 2 ^ 64 → RowsFit (rows_from number stamp place items)
@@ -73,7 +73,7 @@ pub none_some : (x : List ℕ) → None ≡ Some x → ⊥
 none_some x e = cc
 
 -- the first page of a catalog of one
-first_page_is : (base : List ℕ) (c : Stored) (cs : Catalog) → length (all_rows (c ∷ cs)) ≤ page_room
+pub first_page_is : (base : List ℕ) (c : Stored) (cs : Catalog) → length (all_rows (c ∷ cs)) ≤ page_room
     → doc_at base (c ∷ cs) (page_name 0) ≡ Some (page_text base 0 (all_rows (c ∷ cs)))
 first_page_is base c cs few =
     past_index base (page_name 0) (c ∷ cs) (page_name-not_index 0)
@@ -81,7 +81,7 @@ first_page_is base c cs few =
     ∙ ap (λ (found : Option (List ℕ)). option_or found (look_up (page_name 0) (flat_map (leaves_of base) (c ∷ cs))))
     (hit (record { name = page_name 0; bytes = page_text base 0 (all_rows (c ∷ cs)) }) [])
 
-no_first_page : (base : List ℕ) → doc_at base [] (page_name 0) ≡ None
+pub no_first_page : (base : List ℕ) → doc_at base [] (page_name 0) ≡ None
 no_first_page base = past_index base (page_name 0) [] (page_name-not_index 0)
 
 -- equal first pages have equal rows
@@ -107,14 +107,14 @@ heads_fit : (base : List ℕ) (k : ℕ) (heads : List PageHead) → CountsFit he
 heads_fit base k [] counts = tt
 heads_fit base k (head ∷ heads) counts = ((refl, tt, (refl, tt, (refl, tt, (tt, counts.0, tt)))), heads_fit base (suc k) heads counts.1)
 
-index_fits : (base : List ℕ) (heads : List PageHead) → CountsFit heads → length heads < 2 ^ 64 → Fits (index_data base heads)
+pub index_fits : (base : List ℕ) (heads : List PageHead) → CountsFit heads → length heads < 2 ^ 64 → Fits (index_data base heads)
 index_fits base heads counts few = (refl, tt, (refl, tt, (refl, tt, (refl, omega arith, (tt, heads_fit base 0 heads counts, tt)))))
 
 flat_heads : (base : List ℕ) (k : ℕ) (heads : List PageHead) → items_depth (items_of (heads_data base k heads)) ≤ 1
 flat_heads base k [] = omega arith
 flat_heads base k (head ∷ heads) = let rest = flat_heads base (suc k) heads in omega arith
 
-flat_index : (base : List ℕ) (heads : List PageHead) → depth (index_data base heads) ≤ 127
+pub flat_index : (base : List ℕ) (heads : List PageHead) → depth (index_data base heads) ≤ 127
 flat_index base heads = let items = flat_heads base 0 heads in omega arith
 
 its_heads : (cs : Catalog) → length (all_rows cs) ≤ page_room → CountsFit (heads_of cs) × (length (heads_of cs) ≤ 1)

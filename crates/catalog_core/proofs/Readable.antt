@@ -1,5 +1,5 @@
 -- An index of no commits is a text that is read back.
-use Rattle.std.proofs.Common.{◌≡◌, ◌≤◌, ◌<◌, ℕ, List, [], ◌∷◌, ◌++◌, codes, refl, ap, sym, ◌∙◌, lit<, lit≤, Bool, true, inl, IsUtf8, None, Some, Option, option_map}
+use Rattle.std.proofs.Common.{IfNone, ◌≡◌, ℕ, List, [], codes, refl, ap, sym, ◌∙◌, lit<, lit≤, Bool, true, false, inl, IsUtf8, None, Some, Option, option_map}
 use Rattle.std.proofs.lemmas.Str.{IsUtf8-append, IsUtf8-from_ascii}
 use Rattle.json.proofs.Printed.Utf8.{IsUtf8-are_ascii, are_ascii}
 use Rattle.serde_json.specs.Written.{compact_text}
@@ -23,7 +23,7 @@ pub first_stamp_text : IsUtf8 (stamp_text 0)
 unfolding stamp_text last_digits civil_date
 first_stamp_text = IsUtf8-are_ascii (stamp_text 0) refl
 
-literal : (text : List ℕ) → are_ascii text ≡ true → IsUtf8 text
+pub literal : (text : List ℕ) → are_ascii text ≡ true → IsUtf8 text
 literal text ascii = IsUtf8-are_ascii text ascii
 
 pub index_of_none : (base : List ℕ) → IsUtf8 base → IsReadable (index_data base [])
@@ -61,3 +61,10 @@ not_read view (Some x) d none read = cc
 pub is_read : {A : Type 0} {B : Type 0} (view : A → B) (found : Option A) (x : A) (d : B) → found ≡ Some x → option_map view found ≡ Some d → view x ≡ d
 is_read view None x d some read = cc
 is_read view (Some y) x d some read = let same : y ≡ x = cc in let seen : view y ≡ d = cc in ap view (sym same) ∙ seen
+
+pub if_none : {A : Type 0} (o : Option A) (P : Type 0) → P → IfNone o P
+if_none None P h = h
+if_none (Some x) P h = tt
+
+pub differs : {b : Bool} → b ≡ false → b ≡ true → ⊥
+differs off on = cc

@@ -44,7 +44,7 @@ unfolding id_of
 is_own v k = ap (id_of v.text v.key) (kept_once v.text v.key k (v.spelled, v.short, v.lowered))
 
 -- an id's text determines it
-same_id : (u v : PackageId) → u.text ≡ v.text → u ≡ v
+pub same_id : (u v : PackageId) → u.text ≡ v.text → u ≡ v
 unfolding id_of
 same_id u v text =
     let key : u.key ≡ v.key = u.lowered ∙ ap id_key text ∙ sym v.lowered in
@@ -53,7 +53,7 @@ same_id u v text =
     two (u.spelled, u.short, u.lowered)
 
 -- a version's full form determines it
-same_version : (u v : Version) → full_text u ≡ full_text v → u ≡ v
+pub same_version : (u v : Version) → full_text u ≡ full_text v → u ≡ v
 same_version u v e = one_value (full_text v) u v (subst (λ (text : List ℕ). Spells text u) e (full_reads u)) (full_reads v)
 
 not_less : (text : List ℕ) → slice_cmp nat_cmp text text ≡ Less → ⊥
@@ -157,14 +157,14 @@ items_fit : (base : List ℕ) (rows : List Row) → ItemsFit (items_of (map (row
 items_fit base [] = tt
 items_fit base (row ∷ rows) = ((refl, tt, (refl, tt, (refl, tt, (refl, tt, (refl, tt, (tt, tt, tt)))))), items_fit base rows)
 
-page_fits : (base : List ℕ) (k : ℕ) (rows : List Row) → length rows < 2 ^ 64 → Fits (page_data base k rows)
+pub page_fits : (base : List ℕ) (k : ℕ) (rows : List Row) → length rows < 2 ^ 64 → Fits (page_data base k rows)
 page_fits base k rows few = (refl, tt, (refl, tt, (refl, tt, (refl, few, (refl, items_fit base rows, (tt, tt, tt))))))
 
 flat_items : (base : List ℕ) (rows : List Row) → items_depth (items_of (map (row_data base) rows)) ≤ 1
 flat_items base [] = omega arith
 flat_items base (row ∷ rows) = let rest = flat_items base rows in omega arith
 
-flat_page : (base : List ℕ) (k : ℕ) (rows : List Row) → depth (page_data base k rows) ≤ 127
+pub flat_page : (base : List ℕ) (k : ℕ) (rows : List Row) → depth (page_data base k rows) ≤ 127
 flat_page base k rows = let items = flat_items base rows in omega arith
 
 -- a page's text tells the base address and the rows

@@ -4,20 +4,16 @@ use Rattle.blob_store.specs.declared.call.Call.{Call}
 use Rattle.blob_store.specs.declared.call.Call.TheVariants.{Put}
 use Rattle.pkg_meta.specs.Catalog.{Catalog, Staged, Stored}
 use Rattle.pkg_meta.specs.Items.{published}
+pub use Rattle.pkg_meta.specs.Lawful.{newest}
 use Rattle.pkg_meta.specs.declared.item.Item.{Item}
 use Rattle.pkg_meta.specs.declared.item.Item.TheVariants as the
-use Rattle.catalog_core.specs.CatDocs.{all_rows, heads_of, pages_of}
-use Rattle.catalog_core.specs.Documents.{index_text, leaf_text, page_text}
+use Rattle.catalog_core.specs.CatDocs.{all_rows, heads_of, pages_of, rows_of}
+use Rattle.catalog_core.specs.Documents.{head_of, index_text, leaf_text, page_text}
 use Rattle.catalog_core.specs.Hash.{hash_text}
 use Rattle.catalog_core.specs.Names.{index_name, leaf_name, nupkg_name, nuspec_name, page_name}
 use Rattle.catalog_core.specs.declared.change.Change.{Change}
 use Rattle.catalog_core.specs.declared.change.Change.TheVariants.{Publish}
-
--- the last commit's stamp, 0 before the first
-abbrev pub newest : Catalog → ℕ
-newest [] = 0
-newest (c ∷ []) = c.commit.stamp
-newest (c ∷ next ∷ cs) = newest (next ∷ cs)
+use Rattle.catalog_core.specs.declared.row.Row.{Row}
 
 -- the item that a change makes at a place
 abbrev pub item_of : ℕ → ℕ → ℕ → Change → Item
@@ -31,13 +27,17 @@ items_from number stamp place (change ∷ changes) = item_of number stamp place 
 abbrev pub staged_of : Change → Option Staged
 staged_of (Publish meta nuspec nupkg) = Some (record { nuspec = nuspec; nupkg = nupkg })
 
+-- the commit of this number and stamp that these changes make
+abbrev pub commit_at : ℕ → ℕ → List Change → Stored
+commit_at number stamp changes = record {
+  commit = record { number = number; stamp = stamp; items = items_from number stamp 0 changes };
+  staged = map staged_of changes;
+}
+
 -- the commit that these changes make of a catalog, on a clock that shows now: its number follows the last one,
 -- and its stamp is the clock's moment where that is above the last stamp, else the last stamp plus one
 abbrev pub made : Catalog → List Change → ℕ → Stored
-made cs changes now = record {
-  commit = record { number = length cs + 1; stamp = max now (newest cs + 1); items = items_from (length cs + 1) (max now (newest cs + 1)) 0 changes };
-  staged = map staged_of changes;
-}
+made cs changes now = commit_at (length cs + 1) (max now (newest cs + 1)) changes
 
 -- the puts of a publish's package and manifest
 abbrev pub staged_puts : ℕ → ℕ → Option Staged → List Call
@@ -69,3 +69,9 @@ abbrev pub commit_puts : List ℕ → Catalog → Stored → List Call
 commit_puts base cs c =
     place_puts base c.commit.number c.commit.stamp 0 c.commit.items c.staged
     ++ page_put base (cs ++ c ∷ []) ∷ index_put base (cs ++ c ∷ []) ∷ []
+
+-- the puts that add a commit to a catalog that stays on one page, whose rows these are
+abbrev pub one_page_puts : List ℕ → List Row → Stored → List Call
+one_page_puts base rows c =
+    place_puts base c.commit.number c.commit.stamp 0 c.commit.items c.staged
+    ++ Put (page_name 0) (page_text base 0 (rows ++ rows_of c)) ∷ Put index_name (index_text base (head_of (rows ++ rows_of c) ∷ [])) ∷ []

@@ -1,7 +1,7 @@
 -- The catalog's documents as JSON data, with their members in byte order, and their texts.
-use Rattle.std.specs.Prelude.{ℕ, suc, ◌==◌, List, [], ◌∷◌, ◌++◌, Bool, true, false, length, map, codes, decimal, if◌then◌else◌}
+use Rattle.std.specs.Prelude.{ℕ, suc, List, [], ◌∷◌, Bool, length, map, codes, if◌then◌else◌}
 use Rattle.std.specs.Int.{to_be_bytes, w128}
-use Rattle.serde_json.specs.Data.{Data, boolean, string, number, unsigned, array, item, no_items, object, Members, member, no_members}
+use Rattle.serde_json.specs.Data.{Data, boolean, string, number, unsigned, array, item, no_items, object, member, no_members}
 use Rattle.serde_json.specs.View.{items_of}
 use Rattle.serde_json.specs.Written.{compact_text}
 use Rattle.uuid.specs.Text.{hyphenated_text, lower}

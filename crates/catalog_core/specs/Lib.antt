@@ -3,7 +3,11 @@ pub mod Commits
 pub mod Documents
 pub mod Errors
 pub mod Hash
+pub mod Heads
 pub mod Laws
 pub mod Members
 pub mod Names
 pub mod Opened
+pub mod Plain
+pub mod Reading
+pub mod Verdicts

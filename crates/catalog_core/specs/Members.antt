@@ -1,5 +1,5 @@
 -- The members of a details leaf, put group by group.
-use Rattle.std.specs.Prelude.{List, codes}
+use Rattle.std.specs.Prelude.{codes}
 use Rattle.serde_json.specs.Data.{boolean, string, number, unsigned, array, item, no_items, Members, put}
 use Rattle.pkg_meta.specs.declared.item.Details.{Details}
 use Rattle.catalog_core.specs.declared.leaf.LeafTexts.{LeafTexts}

@@ -1,5 +1,5 @@
 // The catalog of a feed, open.
-ghost use Rattle.std.specs.Prelude.{◌≡◌, ◌≢◌, ◌≤◌, ◌+◌, ◌⊎◌, [], ◌∷◌, max, Some, None, length, IfOk, OnOk, IfErr, IfSome, IsErrOf, IsSome, IsUtf8, option_map};
+ghost use Rattle.std.specs.Prelude.{◌≡◌, ◌≤◌, ◌⊎◌, [], ◌∷◌, ◌++◌, Some, None, length, IfOk, OnOk, IfErr, IfSome, IsErrOf, IsSome, IsUtf8, option_map};
 ghost use Rattle.std.specs.FinMap.{get};
 ghost use Rattle.feed_base.specs.Counts.{HasRisen};
 ghost use Rattle.blob_store.specs.Area.{Area, with_blob};
@@ -9,17 +9,19 @@ ghost use Rattle.catalog_core.specs.CatDocs.{all_rows};
 ghost use Rattle.catalog_core.specs.Commits.{commit_puts, made};
 ghost use Rattle.catalog_core.specs.Documents.{index_text};
 ghost use Rattle.catalog_core.specs.Names.{index_name};
-ghost use Rattle.catalog_core.specs.Opened.{Holds, HoldsNone};
+ghost use Rattle.catalog_core.specs.Opened.{HoldsPlain, IsOpened};
+ghost use Rattle.catalog_core.specs.Verdicts.{ForCatalogsOf, IsRefusal, verdict};
 
 use crate::change::{Changes, Committed};
-use crate::committing::put_first;
+use crate::committing::plan;
 use crate::error::{CommitErr, InitErr, OpenErr};
+use crate::heads::Rows;
 use crate::index::index_bytes;
 use crate::names::INDEX_NAME;
-use crate::opening::look;
-use crate::row::Row;
-use blob_store::Blobs;
-use pkg_meta::{Many, Text, Ticks};
+use crate::opening::{Known, look};
+use crate::prepared::Prepared;
+use blob_store::{Blobs, call_all};
+use pkg_meta::{Text, Ticks};
 use std::alloc::Global;
 use std::marker::Model;
 
@@ -28,7 +30,7 @@ use std::marker::Model;
 pub struct Catalog<B: Blobs> {
     area: B,
     base: Text,
-    rows: Many<Row>,
+    rows: Rows,
 }
 
 impl<B: Blobs> Model for Catalog<B> {
@@ -72,28 +74,26 @@ pub fn init<B: Blobs>(alloc: Global, area: B, base: &str) -> Result<Catalog<B>, 
         Ok(()) => Ok(Catalog {
             area,
             base: copy,
-            rows: Many::new(alloc),
+            rows: Rows::new(alloc),
         }),
         Err(error) => Err((error, area)),
     }
 }
 
-/// Opens the catalog of no commits that an area holds. It gets the index and the first page, each once.
+/// Opens the catalog that an area holds, which has at most 512 commits of one bare publish each: of a version of three
+/// numbers, as it is printed. It gets the index and the first page, each once.
 pub fn open_catalog<B: Blobs>(alloc: Global, area: B) -> Result<Catalog<B>, (OpenErr, B)>
-    ensures ok { IfOk result (λ c. IsUtf8 c.base × (c.rows ≡ []) × (B.held c.area ≡ B.held area) × IfSome (B.held area) (λ m. Holds m c.base [])) }
+    ensures ok { IfOk result (λ c. IsOpened (B.held area) c.base c.rows) }
     ensures missing { IfErr result (λ e. e.0 ≡ OpenErr.Missing → IfSome (B.held area) (λ m. get m index_name ≡ None)) }
-    ensures unsupported { IfErr result (λ e. e.0 ≡ OpenErr.Unsupported → IfSome (B.held area) (λ m. IsSome (get m index_name) × (HoldsNone m → ⊥))) }
+    ensures unsupported { IfErr result (λ e. e.0 ≡ OpenErr.Unsupported → IfSome (B.held area) (λ m. IsSome (get m index_name) × (HoldsPlain m → ⊥))) }
     ensures fault { IfErr result (λ e. e.0 ≡ OpenErr.Fault → HasRisen (B.faults area) (B.faults e.1)) }
     ensures same { IfErr result (λ e. (B.held e.1 ≡ B.held area) × (B.faults area ≤ B.faults e.1)) }
+    ensures kept { IfOk result (λ c. B.held c.area ≡ B.held area) }
     ensures later { IfOk result (λ c. B.faults area ≤ B.faults c.area) }
 {
     let mut area = area;
     match look(alloc, &mut area) {
-        Ok(base) => Ok(Catalog {
-            area,
-            base,
-            rows: Many::new(alloc),
-        }),
+        Ok(Known { base, rows }) => Ok(Catalog { area, base, rows }),
         Err(error) => Err((error, area)),
     }
 }
@@ -113,8 +113,9 @@ impl<B: Blobs> Catalog<B> {
         area
     }
 
-    /// Commits one publish into the catalog of no commits. It takes its own memory before its first put.
-    /// After a fault or want of memory the commit is there whole or in part, and the catalog is opened again.
+    /// Commits one publish. It takes its own memory before its first put. `Memory` may come before the
+    /// commit is refused or begun. After a fault or want of memory the commit is there whole or in part,
+    /// and the catalog is opened again.
     pub fn commit(
         &mut self,
         alloc: Global,
@@ -122,28 +123,35 @@ impl<B: Blobs> Catalog<B> {
         now: Ticks,
     ) -> Result<Committed, CommitErr>
         requires one { length changes.now ≡ 1 }
-        ensures ok { IfOk result (λ done. let c = made [] changes.now now in
-            (self.old.rows ≡ []) × (done.number ≡ c.commit.number) × (done.stamp ≡ c.commit.stamp) × (self.new.rows ≡ all_rows (c ∷ []))
-            × (B.held self.new.area ≡ option_map (after_calls (commit_puts self.old.base [] c)) (B.held self.old.area))) }
-        ensures unsupported { IsErrOf result CommitErr.Unsupported → (self.old.rows ≢ []) × (self.new ≡ self.old) }
-        ensures full { (self.old.rows ≡ [] → ⊥) → self.new ≡ self.old }
-        ensures fault { IsErrOf result CommitErr.Fault → (self.old.rows ≡ []) × HasRisen (B.faults self.old.area) (B.faults self.new.area) }
+        ensures taken { IfOk result (λ done. ForCatalogsOf self.old.rows (λ cs. verdict cs changes.now now ≡ Ok (made cs changes.now now))) }
+        ensures ok { IfOk result (λ done. ForCatalogsOf self.old.rows (λ cs. let c = made cs changes.now now in
+            (done.number ≡ c.commit.number) × (done.stamp ≡ c.commit.stamp) × (self.new.rows ≡ all_rows (cs ++ c ∷ []))
+            × (B.held self.new.area ≡ option_map (after_calls (commit_puts self.old.base cs c)) (B.held self.old.area)))) }
+
+        // The refusals, each exactly where it is the verdict, but for want of memory.
+        ensures refused { IfErr result (λ e. IsRefusal e → ForCatalogsOf self.old.rows (λ cs. verdict cs changes.now now ≡ Err e)) }
+        ensures untouched { IfErr result (λ e. IsRefusal e → self.new ≡ self.old) }
+        ensures exactly { ForCatalogsOf self.old.rows (λ cs. IfErr (verdict cs changes.now now) (λ e. ((result ≡ Err e) ⊎ IsErrOf result CommitErr.Memory) × (self.new ≡ self.old))) }
+
+        ensures fault { IsErrOf result CommitErr.Fault → HasRisen (B.faults self.old.area) (B.faults self.new.area) }
+        ensures begun { IsErrOf result CommitErr.Fault → ForCatalogsOf self.old.rows (λ cs. verdict cs changes.now now ≡ Ok (made cs changes.now now)) }
 
         // Whatever it answers, a front of the puts is held, and a crash at each moment leaves a front of them.
-        ensures front { self.old.rows ≡ [] → IfSome (B.held self.old.area) (λ m. (left : Area) × (B.held self.new.area ≡ Some left) × IsAfterSome (commit_puts self.old.base [] (made [] changes.now now)) m left) }
-        ensures moments { self.old.rows ≡ [] → IfSome (B.held self.old.area) (λ m. LeavesOnly B.calls B.left self.old.area self.new.area (IsAfterSome (commit_puts self.old.base [] (made [] changes.now now)) m)) }
+        ensures front { ForCatalogsOf self.old.rows (λ cs. IfSome (B.held self.old.area) (λ m. (left : Area) × (B.held self.new.area ≡ Some left)
+            × IsAfterSome (commit_puts self.old.base cs (made cs changes.now now)) m left)) }
+        ensures moments { ForCatalogsOf self.old.rows (λ cs. IfSome (B.held self.old.area) (λ m. LeavesOnly B.calls B.left self.old.area self.new.area
+            (IsAfterSome (commit_puts self.old.base cs (made cs changes.now now)) m))) }
 
         ensures base { self.new.base ≡ self.old.base }
         ensures later { B.faults self.old.area ≤ B.faults self.new.area }
     {
-        if self.rows.len() > 0 {
-            return Err(CommitErr::Unsupported);
-        }
-        let prepared = put_first(alloc, &mut self.area, self.base.as_str(), changes, now)?;
-        self.rows = prepared.rows;
+        let planned = plan(alloc, self.base.as_str(), &self.rows, changes, now)?;
+        let Prepared { calls, row } = planned.prepared;
+        self.rows.push(alloc, row)?;
+        call_all(alloc, &mut self.area, calls.as_slice())?;
         Ok(Committed {
-            number: 1,
-            stamp: prepared.stamp,
+            number: planned.number,
+            stamp: planned.stamp,
         })
     }
 }

@@ -1,41 +1,88 @@
-// The commit of one publish into an empty catalog's area.
-ghost use Rattle.std.specs.Prelude.{◌≡◌, ◌≤◌, [], ◌∷◌, Some, length, IfOk, IfSome, IsErrOf, option_map};
-ghost use Rattle.feed_base.specs.Counts.{HasRisen};
-ghost use Rattle.blob_store.specs.Area.{Area};
-ghost use Rattle.blob_store.specs.Moments.{LeavesOnly};
-ghost use Rattle.blob_store.specs.Runs.{after_calls, IsAfterSome};
+// Which commit changes make of a catalog.
+ghost use Rattle.std.specs.Prelude.{◌≡◌, ◌⊎◌, ◌<◌, ◌+◌, [], ◌∷◌, ◌++◌, max, None, Some, length, IfOk, IfErr, IsErrOf, option_map};
 ghost use Rattle.catalog_core.specs.CatDocs.{all_rows};
 ghost use Rattle.catalog_core.specs.Commits.{commit_puts, made};
+ghost use Rattle.catalog_core.specs.Documents.{last_stamp};
+ghost use Rattle.catalog_core.specs.Verdicts.{first_standing, ForCatalogsOf, refusal, verdict};
 
-use crate::change::Changes;
+use crate::change::{Change, Changes};
 use crate::error::CommitErr;
-use crate::prepared::{Prepared, first_commit};
-use blob_store::{Blobs, call_all};
-use pkg_meta::Ticks;
+use crate::heads::Rows;
+use crate::page::last_of;
+use crate::prepared::{Prepared, prepare};
+use pkg_meta::{NoMemory, Ticks, after};
 use std::alloc::Global;
 
-/// Puts the first commit of a catalog.
-pub(crate) fn put_first<B: Blobs>(
+// How many items a catalog has at the most.
+const ROOM: usize = 512;
+
+/// A commit that isn't refused: its number and stamp, its puts in order, and its row.
+#[derive(Drop)]
+pub(crate) struct Planned {
+    pub(crate) number: u32,
+    pub(crate) stamp: Ticks,
+    pub(crate) prepared: Prepared,
+}
+
+// Why the version of a change can't be published, if it is there.
+fn standing(alloc: Global, rows: &Rows, change: &Change) -> Result<Option<CommitErr>, NoMemory>
+    ensures { IfOk result (λ found. found ≡ first_standing rows.now 0 (change.now ∷ [])) }
+{
+    let Change::Publish { meta, .. } = change;
+    match rows.last(alloc, &meta.id, &meta.version)? {
+        Some(head) if !head.gone => Ok(Some(CommitErr::Exists(0, head.number))),
+        _ => Ok(None),
+    }
+}
+
+// The stamp of the commit of a change, if it isn't refused.
+fn next_stamp(alloc: Global, rows: &Rows, change: &Change, now: Ticks) -> Result<Ticks, CommitErr>
+    ensures taken { IfOk result (λ _. refusal rows.now (last_stamp rows.now) (change.now ∷ []) ≡ None) }
+    ensures stamp { IfOk result (λ stamp. stamp ≡ max now (last_stamp rows.now + 1)) }
+    ensures room { IfOk result (λ _. length rows.now < 512) }
+    ensures refused { IfErr result (λ e. (e ≡ CommitErr.Memory) ⊎ (refusal rows.now (last_stamp rows.now) (change.now ∷ []) ≡ Some e)) }
+    ensures fault { IsErrOf result CommitErr.Fault → ⊥ }
+{
+    if let Some(error) = standing(alloc, rows, change)? {
+        return Err(error);
+    }
+    if rows.len() >= ROOM {
+        return Err(CommitErr::Unsupported);
+    }
+    let (_, last) = last_of(rows.as_slice());
+    match after(last, now) {
+        Some(stamp) => Ok(stamp),
+        None => Err(CommitErr::ClockEnd),
+    }
+}
+
+/// The commit of one change onto a catalog, if it isn't refused. It takes all the memory that the commit
+/// needs but the store's own and that of the catalog's rows.
+pub(crate) fn plan(
     alloc: Global,
-    area: &mut B,
     base: &str,
+    rows: &Rows,
     changes: &Changes,
     now: Ticks,
-) -> Result<Prepared, CommitErr>
+) -> Result<Planned, CommitErr>
     requires one { length changes.now ≡ 1 }
-    ensures rows { IfOk result (λ p. p.rows ≡ all_rows (made [] changes.now now ∷ [])) }
-    ensures stamp { IfOk result (λ p. p.stamp ≡ (made [] changes.now now).commit.stamp) }
-    ensures held { IfOk result (λ _. B.held area.new ≡ option_map (after_calls (commit_puts base.now [] (made [] changes.now now))) (B.held area.old)) }
-    ensures front { IfSome (B.held area.old) (λ m. (left : Area) × (B.held area.new ≡ Some left) × IsAfterSome (commit_puts base.now [] (made [] changes.now now)) m left) }
-    ensures moments { IfSome (B.held area.old) (λ m. LeavesOnly B.calls B.left area.old area.new (IsAfterSome (commit_puts base.now [] (made [] changes.now now)) m)) }
-    ensures supported { IsErrOf result CommitErr.Unsupported → ⊥ }
-    ensures fault { IsErrOf result CommitErr.Fault → HasRisen (B.faults area.old) (B.faults area.new) }
-    ensures later { B.faults area.old ≤ B.faults area.new }
+    ensures taken { IfOk result (λ _. ForCatalogsOf rows.now (λ cs. verdict cs changes.now now ≡ Ok (made cs changes.now now))) }
+    ensures number { IfOk result (λ p. ForCatalogsOf rows.now (λ cs. p.number ≡ (made cs changes.now now).commit.number)) }
+    ensures stamp { IfOk result (λ p. ForCatalogsOf rows.now (λ cs. p.stamp ≡ (made cs changes.now now).commit.stamp)) }
+    ensures calls { IfOk result (λ p. ForCatalogsOf rows.now (λ cs. p.prepared.calls ≡ commit_puts base.now cs (made cs changes.now now))) }
+    ensures row { IfOk result (λ p. ForCatalogsOf rows.now (λ cs. rows.now ++ p.prepared.row ∷ [] ≡ all_rows (cs ++ made cs changes.now now ∷ []))) }
+    ensures refused { IfErr result (λ e. (e ≡ CommitErr.Memory) ⊎ ForCatalogsOf rows.now (λ cs. verdict cs changes.now now ≡ Err e)) }
+    ensures fault { IsErrOf result CommitErr.Fault → ⊥ }
 {
     let Some(change) = changes.get(0) else {
         unreachable!()
     };
-    let prepared = first_commit(alloc, base, change, now)?;
-    call_all(alloc, area, prepared.calls.as_slice())?;
-    Ok(prepared)
+    let stamp = next_stamp(alloc, rows, change, now)?;
+    let number = rows.len() as u32 + 1;
+    let prepared = prepare(alloc, base, rows.as_slice(), change, number, stamp)?;
+    Ok(Planned {
+        number,
+        stamp,
+        prepared,
+    })
 }

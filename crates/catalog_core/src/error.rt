@@ -31,8 +31,13 @@ pub enum OpenErr {
 /// Why nothing was committed.
 #[derive(Clone, Copy, Debug, PartialEq, Eq)]
 pub enum CommitErr {
-    /// The catalog has as many commits as this program takes.
+    /// The version of the change at this place is there, since the commit of this number: that of its
+    /// last item.
+    Exists(u32, u32),
+    /// The catalog has 512 items, as many as this program takes.
     Unsupported,
+    /// The last stamp is the last moment of the calendar.
+    ClockEnd,
     /// A call of the store failed.
     Fault,
     /// Want of memory.

@@ -1,11 +1,19 @@
 // What holds of the documents of every catalog.
 ghost use Rattle.std.specs.Prelude.{◌≡◌, ◌+◌, ◌<◌, ◌≤◌, ◌^◌, ◌++◌, ◌∷◌, ℕ, List, [], Some, length};
 ghost use Rattle.pkg_meta.specs.Catalog.{Catalog, Stored};
+ghost use Rattle.pkg_meta.specs.Lawful.{IsLawful, IsNext};
 ghost use Rattle.pkg_meta.specs.declared.meta.Meta.{Meta};
 ghost use Rattle.catalog_core.specs.CatDocs.{all_rows, doc_at};
 ghost use Rattle.catalog_core.specs.Commits.{index_put, page_put};
 ghost use Rattle.catalog_core.specs.Laws.{ArePutsOfDocuments, empty_index, first, first_base, first_index, first_leaf, first_page, FitsOnePage, HasLeaves, HasOwnNumber, HaveSamePages, IsElsewhere, IsFoo, IsInRange, PutsDocument};
 ghost use Rattle.catalog_core.specs.Names.{index_name, leaf_name, page_name};
+ghost use Rattle.catalog_core.specs.Verdicts.{HaveDistinctPairs, IsSimple, verdict};
+ghost use Rattle.catalog_core.specs.declared.change.Change.{Change};
+ghost use Rattle.catalog_core.specs.declared.change.Change.TheVariants.{Publish};
+ghost use Rattle.catalog_core.specs.Opened.{Holds};
+ghost use Rattle.catalog_core.specs.Plain.{ArePlainRows, IsBareMeta, IsPlain};
+ghost use Rattle.catalog_core.specs.declared.row.Row.{Row};
+ghost use Rattle.blob_store.specs.Area.{Area};
 
 /// The documents of the catalog of one publish, byte for byte, and the index of no commits. There is
 /// metadata such as it speaks of. It does nothing.
@@ -49,4 +57,28 @@ pub fn different_catalogs()
         → doc_at base cs index_name ≡ doc_at other ds index_name → base ≡ other }
     ensures any_base { (base other : List ℕ) (cs ds : Catalog) → IsInRange cs → IsInRange ds
         → doc_at base cs index_name ≡ doc_at other ds index_name → base ≡ other }
+{}
+
+/// A publish that isn't refused may follow the catalog that it is committed onto: its number is the next and
+/// its moment is later. The catalog stays lawful with it, and one of single items. It does nothing.
+pub fn commits_follow()
+    ensures next { (cs : Catalog) (changes : List Change) (now : ℕ) (c : Stored) → length changes ≡ 1 → now ≤ 3_155_378_975_999_999_999
+        → verdict cs changes now ≡ Ok c → IsNext cs c }
+    ensures lawful { (cs : Catalog) (changes : List Change) (now : ℕ) (c : Stored) → length changes ≡ 1 → now ≤ 3_155_378_975_999_999_999
+        → verdict cs changes now ≡ Ok c → IsLawful cs → IsLawful (cs ++ c ∷ []) }
+    ensures simple { (cs : Catalog) (changes : List Change) (now : ℕ) (c : Stored) → length changes ≡ 1 → now ≤ 3_155_378_975_999_999_999
+        → verdict cs changes now ≡ Ok c → IsSimple cs → IsSimple (cs ++ c ∷ []) }
+{}
+
+/// The rows of a catalog of bare publishes, and that all such rows are those of one; an area holds one at the most. A
+/// commit of a bare publish that isn't refused keeps it one. It does nothing.
+pub fn plain_catalogs()
+    ensures rows { (cs : Catalog) → IsPlain cs → ArePlainRows (all_rows cs) × HaveDistinctPairs (all_rows cs) }
+    ensures catalogs { (rows : List Row) → ArePlainRows rows → HaveDistinctPairs rows
+        → (cs : Catalog) × IsPlain cs × (all_rows cs ≡ rows) }
+    ensures one { (m : Area) (base other : List ℕ) (cs ds : Catalog) → IsPlain cs → IsPlain ds
+        → Holds m base cs → Holds m other ds → (base ≡ other) × (all_rows cs ≡ all_rows ds) }
+    ensures simple { (cs : Catalog) → IsPlain cs → IsSimple cs }
+    ensures grows { (cs : Catalog) (meta : Meta) (nuspec nupkg : List ℕ) (now : ℕ) (c : Stored) → now ≤ 3_155_378_975_999_999_999
+        → IsPlain cs → IsBareMeta meta → verdict cs (Publish meta nuspec nupkg ∷ []) now ≡ Ok c → IsPlain (cs ++ c ∷ []) }
 {}

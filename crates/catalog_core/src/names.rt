@@ -1,5 +1,5 @@
 // Names in the catalog's area, URLs and commit ids.
-ghost use Rattle.std.specs.Prelude.{◌≡◌, IfOk, string_bytes};
+ghost use Rattle.std.specs.Prelude.{◌≡◌, ◌++◌, IfOk, codes, decimal, string_bytes};
 ghost use Rattle.catalog_core.specs.Names.{catalog_url, index_name, page_name, leaf_name, nupkg_name, nuspec_name, place_name};
 ghost use Rattle.catalog_core.specs.Documents.{commit_id};
 
@@ -67,6 +67,13 @@ pub(crate) fn leaf_url(
 {
     let name = leaf_name(alloc, number, place)?;
     catalog_url(alloc, base, &name)
+}
+
+// What stands before the place in the URL of a commit's leaves.
+pub(crate) fn place_front(alloc: Global, base: &str, number: u32) -> Result<String, AllocError>
+    ensures { IfOk result (λ front. string_bytes front ≡ base.now ++ (codes "v3/catalog/data/" ++ (decimal number ++ codes "/"))) }
+{
+    format!(in alloc; "{base}v3/catalog/data/{number}/")
 }
 
 #[tactic(auto, unfolding(crate::specs::Documents::commit_id))]

@@ -1,85 +1,88 @@
 // What an area holds of a catalog.
-ghost use Rattle.std.specs.Prelude.{◌≡◌, ◌≤◌, ℕ, List, [], Some, None, IfOk, IfSome, IfNone, IsErrOf, IsSome, IsTrue, IsUtf8, ◌↔◌, option_map};
+ghost use Rattle.std.specs.Prelude.{◌≡◌, ◌≤◌, ◌↔◌, ℕ, List, Some, None, IfOk, IfSome, IsErrOf, IsSome, IsTrue, IsUtf8};
 ghost use Rattle.std.specs.FinMap.{get};
-ghost use Rattle.serde_json.specs.View.{view};
 ghost use Rattle.feed_base.specs.Counts.{HasRisen};
-ghost use Rattle.catalog_core.specs.Documents.{index_data, index_text};
-ghost use Rattle.catalog_core.specs.Names.{catalog_url, index_name};
-ghost use Rattle.catalog_core.specs.Opened.{Holds, HoldsNone};
+ghost use Rattle.catalog_core.specs.Documents.{index_text};
+ghost use Rattle.catalog_core.specs.Names.{index_name};
+ghost use Rattle.catalog_core.specs.Opened.{HoldsPlain, IsOpened};
+ghost use Rattle.catalog_core.specs.Plain.{ArePlainRows};
+ghost use Rattle.catalog_core.specs.Reading.{HoldsRows, one_head, one_page};
+ghost use Rattle.catalog_core.specs.declared.row.Row.{Row};
 
 use crate::error::OpenErr;
-use crate::index::index_bytes;
+use crate::head::PageHead;
+use crate::heads::Rows;
 use crate::names::INDEX_NAME;
+use crate::plain::{are_heads_of, are_plain};
+use crate::reading::{Index, read_index, read_page};
+use crate::row::Row;
 use blob_store::Blobs;
-use json_law::value_of;
-use pkg_meta::{NoMemory, Text};
-use serde_json::Value;
+use pkg_meta::{Bytes, Many, NoMemory, Text};
 use std::alloc::Global;
 
 // The name of the first page.
 const FIRST_PAGE_NAME: &str = "page0.json";
 
-// The path of the index below the base address.
-const INDEX_PATH: &str = "v3/catalog/index.json";
-
-// The base address below which the index has this URL.
-fn base_of(url: &str) -> Option<&str>
-    ensures { (base : List ℕ) → IsUtf8 base → url.now ≡ catalog_url base index_name → option_map (λ b. b.now) result ≡ Some base }
-{
-    let bytes = url.as_bytes();
-    let len = bytes.len().checked_sub(INDEX_PATH.len())?;
-    let front = &bytes[..len];
-    str::from_utf8(front).ok()
+/// What an area holds: the base address and the rows.
+#[derive(Drop)]
+pub(crate) struct Found {
+    pub(crate) base: Text,
+    pub(crate) rows: Many<Row>,
 }
 
-// The URL that a document says it has.
-fn url_in(value: &Value) -> Option<&str>
-    ensures { (base : List ℕ) → view value.now ≡ index_data base [] → option_map (λ url. url.now) result ≡ Some (catalog_url base index_name) }
+// The rows of the first page, none where it isn't held, or nothing where it is no page.
+fn rows_of_page(
+    alloc: Global,
+    base: &str,
+    page: &Option<Bytes>,
+) -> Result<Option<Many<Row>>, NoMemory>
+    ensures some { IfOk result (λ found. IfSome found (λ rows. page.now ≡ one_page base.now rows)) }
+    ensures exact { (rows : List Row) → ArePlainRows rows → page.now ≡ one_page base.now rows → IfOk result (λ found. found ≡ Some rows) }
 {
-    value.get("@id").and_then(Value::as_str)
-}
-
-// The base address that stands in an index of no commits.
-fn base_in(value: &Value) -> Option<&str>
-    ensures { (base : List ℕ) → IsUtf8 base → view value.now ≡ index_data base [] → option_map (λ b. b.now) result ≡ Some base }
-{
-    match url_in(value) {
-        Some(url) => base_of(url),
-        None => None,
+    let Some(bytes) = page else {
+        return Ok(Some(Many::new(alloc)));
+    };
+    let Some(rows) = read_page(alloc, base, 0, bytes.as_slice())? else {
+        return Ok(None);
+    };
+    if rows.len() == 0 {
+        return Ok(None);
     }
+    Ok(Some(rows))
 }
 
-fn is_same(bytes: &[u8], other: &[u8]) -> bool
-    ensures { IsTrue result ↔ (bytes.now ≡ other.now) }
+// Whether these are the heads and the rows of commits of one bare publish each.
+fn are_of_one_catalog(heads: &[PageHead], rows: &[Row]) -> bool
+    ensures { IsTrue result ↔ (ArePlainRows rows.now × (heads.now ≡ one_head rows.now)) }
 {
-    bytes == other
+    are_plain(rows) && are_heads_of(heads, rows)
 }
 
-/// The base address of an index of no commits, or none where the bytes are no such index.
-fn read_index(alloc: Global, bytes: &[u8]) -> Result<Option<Text>, NoMemory>
-    ensures some { IfOk result (λ found. IfSome found (λ base. (bytes.now ≡ index_text base []) × IsUtf8 base)) }
-    ensures none { IfOk result (λ found. IfNone found ((base : List ℕ) → IsUtf8 base → bytes.now ≡ index_text base [] → ⊥)) }
+// The catalog whose index and first page these are.
+fn found_in(alloc: Global, index: &[u8], page: &Option<Bytes>) -> Result<Option<Found>, NoMemory>
+    ensures some { IfOk result (λ found. IfSome found (λ f. IsUtf8 f.base × ArePlainRows f.rows × (index.now ≡ index_text f.base (one_head f.rows)) × (page.now ≡ one_page f.base f.rows))) }
+    ensures exact { (base : List ℕ) (rows : List Row) → IsUtf8 base → ArePlainRows rows → index.now ≡ index_text base (one_head rows) → page.now ≡ one_page base rows → IfOk result (λ found. found ≡ Some (record { base = base; rows = rows })) }
 {
-    let Some(value) = value_of(alloc, bytes)? else {
+    let Some(read) = read_index(alloc, index)? else {
         return Ok(None);
     };
-    let Some(base) = base_in(&value) else {
+    let Index { base, heads } = read;
+    let Some(rows) = rows_of_page(alloc, base.as_str(), page)? else {
         return Ok(None);
     };
-    let again = index_bytes(alloc, base, &[])?;
-    if is_same(again.as_slice(), bytes) {
-        let base = Text::copy_of(alloc, base)?;
-        Ok(Some(base))
+    if are_of_one_catalog(heads.as_slice(), rows.as_slice()) {
+        Ok(Some(Found { base, rows }))
     } else {
         Ok(None)
     }
 }
 
-/// The base address of the catalog of no commits that the area holds.
-pub(crate) fn look<B: Blobs>(alloc: Global, area: &mut B) -> Result<Text, OpenErr>
-    ensures ok { IfOk result (λ base. IsUtf8 base × IfSome (B.held area.old) (λ m. Holds m base [])) }
+/// The base address and the rows of the catalog that the area holds, in which a version may be
+/// published twice.
+pub(crate) fn find<B: Blobs>(alloc: Global, area: &mut B) -> Result<Found, OpenErr>
+    ensures ok { IfOk result (λ f. IsUtf8 f.base × ArePlainRows f.rows × IfSome (B.held area.old) (λ m. HoldsRows m f.base f.rows)) }
     ensures missing { IsErrOf result OpenErr.Missing → IfSome (B.held area.old) (λ m. get m index_name ≡ None) }
-    ensures unsupported { IsErrOf result OpenErr.Unsupported → IfSome (B.held area.old) (λ m. IsSome (get m index_name) × (HoldsNone m → ⊥)) }
+    ensures unsupported { IsErrOf result OpenErr.Unsupported → IfSome (B.held area.old) (λ m. IsSome (get m index_name) × ((base : List ℕ) (rows : List Row) → IsUtf8 base → ArePlainRows rows → HoldsRows m base rows → ⊥)) }
     ensures fault { IsErrOf result OpenErr.Fault → HasRisen (B.faults area.old) (B.faults area.new) }
     ensures same { B.held area.new ≡ B.held area.old }
     ensures later { B.faults area.old ≤ B.faults area.new }
@@ -88,11 +91,31 @@ pub(crate) fn look<B: Blobs>(alloc: Global, area: &mut B) -> Result<Text, OpenEr
         return Err(OpenErr::Missing);
     };
     let page = area.get(alloc, FIRST_PAGE_NAME)?;
-    if page.is_some() {
-        return Err(OpenErr::Unsupported);
-    }
-    match read_index(alloc, index.as_slice())? {
-        Some(base) => Ok(base),
+    match found_in(alloc, index.as_slice(), &page)? {
+        Some(found) => Ok(found),
         None => Err(OpenErr::Unsupported),
     }
+}
+
+/// A catalog of bare publishes that was found: the base address, and the rows with the versions' heads.
+#[derive(Drop)]
+pub(crate) struct Known {
+    pub(crate) base: Text,
+    pub(crate) rows: Rows,
+}
+
+/// The catalog of bare publishes that the area holds. It gets the index and the first page, each once.
+pub(crate) fn look<B: Blobs>(alloc: Global, area: &mut B) -> Result<Known, OpenErr>
+    ensures ok { IfOk result (λ k. IsOpened (B.held area.old) k.base k.rows) }
+    ensures missing { IsErrOf result OpenErr.Missing → IfSome (B.held area.old) (λ m. get m index_name ≡ None) }
+    ensures unsupported { IsErrOf result OpenErr.Unsupported → IfSome (B.held area.old) (λ m. IsSome (get m index_name) × (HoldsPlain m → ⊥)) }
+    ensures fault { IsErrOf result OpenErr.Fault → HasRisen (B.faults area.old) (B.faults area.new) }
+    ensures same { B.held area.new ≡ B.held area.old }
+    ensures later { B.faults area.old ≤ B.faults area.new }
+{
+    let Found { base, rows } = find(alloc, area)?;
+    let Some(rows) = Rows::of_rows(alloc, rows)? else {
+        return Err(OpenErr::Unsupported);
+    };
+    Ok(Known { base, rows })
 }

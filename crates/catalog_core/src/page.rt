@@ -1,8 +1,9 @@
 // A page of the catalog.
-ghost use Rattle.std.specs.Prelude.{◌≡◌, ◌<◌, ◌^◌, IfOk, length, map, string_bytes};
+ghost use Rattle.std.specs.Prelude.{◌≡◌, ◌<◌, ◌^◌, ◌++◌, ◌∷◌, [], IfOk, length, map, string_bytes};
 ghost use Rattle.serde_json.specs.View.{view};
 ghost use Rattle.ticks.specs.Stamp.{stamp_text};
-ghost use Rattle.catalog_core.specs.Documents.{commit_id, last_number, last_stamp, page_data, page_object, page_text, row_data, row_kind, row_object};
+ghost use Rattle.catalog_core.specs.Documents.{commit_id, last_number, last_stamp, page_object, page_text, row_data, row_kind, row_object};
+ghost use Rattle.catalog_core.specs.Names.{catalog_url, index_name, page_name};
 
 use crate::head::first_moment;
 use crate::names::{commit_id, index_url, leaf_url, page_url};
@@ -64,8 +65,8 @@ fn row_values(alloc: Global, base: &str, rows: &[Row]) -> Result<Vec<Value>, NoM
     Ok(values)
 }
 
-// The number and the stamp of the last row's commit.
-fn last_of(rows: &[Row]) -> (u32, Ticks)
+/// The number and the stamp of the last row's commit, those of no commits where there is no row.
+pub(crate) fn last_of(rows: &[Row]) -> (u32, Ticks)
     ensures number { result.0 ≡ last_number rows.now }
     ensures stamp { result.1 ≡ last_stamp rows.now }
 {
@@ -96,16 +97,22 @@ fn page_object(
     })
 }
 
-fn page_value(alloc: Global, base: &str, page: u32, rows: &[Row]) -> Result<Value, NoMemory>
-    ensures { IfOk result (λ v. view v ≡ page_data base.now page rows.now) }
+// A page of these rows, whose last commit has this number and stamp.
+fn page_value(
+    alloc: Global,
+    base: &str,
+    page: u32,
+    number: u32,
+    stamp: Ticks,
+    rows: Vec<Value>,
+) -> Result<Value, NoMemory>
+    ensures { IfOk result (λ v. view v ≡ page_object (catalog_url base.now (page_name page)) (commit_id number) (stamp_text stamp) (length rows.items) (map view rows.items) (catalog_url base.now index_name)) }
 {
-    let (number, stamp) = last_of(rows);
     let url = page_url(alloc, base, page)?;
     let commit = commit_id(alloc, number)?;
     let stamp = stamp.print(alloc)?.into_string();
-    let values = row_values(alloc, base, rows)?;
     let parent = index_url(alloc, base)?;
-    let value = page_object(alloc, url, commit, stamp, values, parent)?;
+    let value = page_object(alloc, url, commit, stamp, rows, parent)?;
     Ok(value)
 }
 
@@ -119,7 +126,27 @@ pub(crate) fn page_bytes(
 ) -> Result<Bytes, NoMemory>
     ensures { IfOk result (λ b. b ≡ page_text base.now page rows.now) }
 {
-    let value = page_value(alloc, base, page, rows)?;
+    let (number, stamp) = last_of(rows);
+    let values = row_values(alloc, base, rows)?;
+    let value = page_value(alloc, base, page, number, stamp, values)?;
+    let bytes = value.to_vec(alloc)?;
+    Ok(Bytes::of(bytes))
+}
+
+/// The bytes of a page with these rows and one more behind them.
+#[tactic(auto, unfolding(crate::specs::Documents::page_text))]
+pub(crate) fn longer_page_bytes(
+    alloc: Global,
+    base: &str,
+    page: u32,
+    rows: &[Row],
+    row: &Row,
+) -> Result<Bytes, NoMemory>
+    ensures { IfOk result (λ b. b ≡ page_text base.now page (rows.now ++ row.now ∷ [])) }
+{
+    let mut values = row_values(alloc, base, rows)?;
+    values.push(row_value(alloc, base, row)?)?;
+    let value = page_value(alloc, base, page, row.number, row.stamp, values)?;
     let bytes = value.to_vec(alloc)?;
     Ok(Bytes::of(bytes))
 }

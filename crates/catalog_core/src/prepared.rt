@@ -1,61 +1,72 @@
 // A commit that is ready to be put.
-ghost use Rattle.std.specs.Prelude.{◌≡◌, ◌+◌, [], ◌∷◌, max, IfOk};
-ghost use Rattle.catalog_core.specs.CatDocs.{all_rows};
-ghost use Rattle.catalog_core.specs.Commits.{commit_puts, made};
+ghost use Rattle.std.specs.Prelude.{◌≡◌, ◌<◌, ◌+◌, ◌^◌, [], ◌∷◌, ◌++◌, IfOk, OnOk, length};
+ghost use Rattle.blob_store.specs.declared.call.Call.TheVariants.{Put};
+ghost use Rattle.catalog_core.specs.CatDocs.{rows_of};
+ghost use Rattle.catalog_core.specs.Commits.{commit_at, one_page_puts, place_puts};
+ghost use Rattle.catalog_core.specs.Documents.{head_of, index_text, page_text};
+ghost use Rattle.catalog_core.specs.Names.{index_name, page_name};
 
 use crate::change::Change;
-use crate::head::{PageHead, first_moment};
+use crate::head::PageHead;
 use crate::puts::{index_call, page_call, place_calls, publish_details, publish_row};
 use crate::row::Row;
 use blob_store::Call;
-use pkg_meta::{Many, NoMemory, Ticks, after};
+use pkg_meta::{Many, NoMemory, Ticks};
 use std::alloc::Global;
 
-/// A commit's puts in order, the rows of the catalog with it, and its stamp.
+/// A commit of one item: its puts in order, and its row.
 #[derive(Drop)]
 pub(crate) struct Prepared {
     pub(crate) calls: Many<Call>,
-    pub(crate) rows: Many<Row>,
-    pub(crate) stamp: Ticks,
+    pub(crate) row: Row,
 }
 
-// The stamp of the first commit.
-fn first_stamp(now: Ticks) -> Ticks
-    ensures { result ≡ max now (0 + 1) }
+// The head of the one page of these rows and one more behind them.
+fn longer_head(rows: &[Row], row: &Row) -> PageHead
+    requires few { length rows.now + 1 < 2 ^ 32 }
+    ensures { result ≡ head_of (rows.now ++ row.now ∷ []) }
 {
-    match after(first_moment(), now) {
-        Some(stamp) => stamp,
-        None => unreachable!(),
+    PageHead {
+        number: row.number,
+        stamp: row.stamp,
+        count: rows.len() as u32 + 1,
     }
 }
 
-/// Prepares the first commit of a catalog, which takes all the memory that it needs but the store's own.
-pub(crate) fn first_commit(
+// The puts of the one page and the index, behind those of the places.
+fn add_catalog_calls(
     alloc: Global,
     base: &str,
-    change: &Change,
-    now: Ticks,
-) -> Result<Prepared, NoMemory>
-    ensures calls { IfOk result (λ p. p.calls ≡ commit_puts base.now [] (made [] (change.now ∷ []) now)) }
-    ensures rows { IfOk result (λ p. p.rows ≡ all_rows (made [] (change.now ∷ []) now ∷ [])) }
-    ensures stamp { IfOk result (λ p. p.stamp ≡ (made [] (change.now ∷ []) now).commit.stamp) }
+    calls: &mut Many<Call>,
+    rows: &[Row],
+    row: &Row,
+) -> Result<(), NoMemory>
+    requires few { length rows.now + 1 < 2 ^ 32 }
+    ensures { OnOk result (calls.new ≡ calls.old ++ Put (page_name 0) (page_text base.now 0 (rows.now ++ row.now ∷ [])) ∷ Put index_name (index_text base.now (head_of (rows.now ++ row.now ∷ []) ∷ [])) ∷ []) }
 {
-    let Change::Publish {
-        meta,
-        nuspec,
-        package,
-    } = change;
-    let stamp = first_stamp(now);
-    let details = publish_details(alloc, meta, package, 1, 0, stamp)?;
-    let mut rows = Many::new(alloc);
-    rows.push(publish_row(alloc, 1, 0, stamp, &details)?)?;
-    let mut calls = Many::of(place_calls(alloc, base, &details, nuspec, package)?);
-    calls.push(page_call(alloc, base, 0, rows.as_slice())?)?;
-    let head = PageHead {
-        number: 1,
-        stamp,
-        count: 1,
-    };
-    calls.push(index_call(alloc, base, head)?)?;
-    Ok(Prepared { calls, rows, stamp })
+    calls.push(page_call(alloc, base, 0, rows, row)?)?;
+    calls.push(index_call(alloc, base, longer_head(rows, row))?)?;
+    Ok(())
+}
+
+/// Prepares a commit onto a catalog of one page with these rows. It takes all the memory that the commit
+/// needs but the store's own.
+pub(crate) fn prepare(
+    alloc: Global,
+    base: &str,
+    rows: &[Row],
+    change: &Change,
+    number: u32,
+    stamp: Ticks,
+) -> Result<Prepared, NoMemory>
+    requires few { length rows.now + 1 < 2 ^ 32 }
+    ensures calls { IfOk result (λ p. p.calls ≡ one_page_puts base.now rows.now (commit_at number stamp (change.now ∷ []))) }
+    ensures row { IfOk result (λ p. p.row ∷ [] ≡ rows_of (commit_at number stamp (change.now ∷ []))) }
+{
+    let details = publish_details(alloc, change, number, 0, stamp)?;
+    let row = publish_row(alloc, number, 0, stamp, &details)?;
+    let calls = place_calls(alloc, base, number, 0, stamp, &details, change)?;
+    let mut calls = Many::of(calls);
+    add_catalog_calls(alloc, base, &mut calls, rows, &row)?;
+    Ok(Prepared { calls, row })
 }

@@ -1,38 +1,36 @@
 // The puts of a commit.
-ghost use Rattle.std.specs.Prelude.{◌≡◌, [], ◌∷◌, ◌++◌, Some, false, IfOk, length, string_bytes};
+ghost use Rattle.std.specs.Prelude.{◌≡◌, [], ◌∷◌, ◌++◌, false, IfOk, string_bytes};
 ghost use Rattle.blob_store.specs.declared.call.Call.TheVariants.{Put};
-ghost use Rattle.pkg_meta.specs.Catalog.{Staged, Stored};
-ghost use Rattle.pkg_meta.specs.Items.{published};
 ghost use Rattle.pkg_meta.specs.declared.item.Item.TheVariants as the;
-ghost use Rattle.catalog_core.specs.Commits.{place_puts};
-ghost use Rattle.catalog_core.specs.Documents.{head_of, index_text, page_text};
-ghost use Rattle.catalog_core.specs.Hash.{hash_text};
+ghost use Rattle.catalog_core.specs.Commits.{item_of, place_puts, staged_of};
+ghost use Rattle.catalog_core.specs.Documents.{index_text, page_text};
 ghost use Rattle.catalog_core.specs.Names.{index_name, page_name};
 
+use crate::change::Change;
 use crate::hash::package_hash;
 use crate::head::PageHead;
 use crate::index::index_bytes;
 use crate::leaf::details_bytes;
 use crate::names::{INDEX_NAME, leaf_name, nupkg_name, nuspec_name, page_name};
-use crate::page::page_bytes;
+use crate::page::longer_page_bytes;
 use crate::row::Row;
 use blob_store::Call;
-use pkg_meta::{Bytes, Details, Meta, NoMemory, Text, Ticks};
+use pkg_meta::{Bytes, Details, NoMemory, Text, Ticks};
 use std::alloc::Global;
 
 /// The item of a publish at a place of a commit.
 pub(crate) fn publish_details(
     alloc: Global,
-    meta: &Meta,
-    nupkg: &Bytes,
+    change: &Change,
     number: u32,
     place: u32,
     stamp: Ticks,
 ) -> Result<Details, NoMemory>
-    ensures { IfOk result (λ d. d ≡ published meta.now number place stamp (length nupkg.now) (hash_text nupkg.now)) }
+    ensures { IfOk result (λ d. the.Details d ≡ item_of number stamp place change.now) }
 {
-    let size = nupkg.as_slice().len() as u64;
-    let hash = package_hash(alloc, nupkg.as_slice())?;
+    let Change::Publish { meta, package, .. } = change;
+    let size = package.as_slice().len() as u64;
+    let hash = package_hash(alloc, package.as_slice())?;
     let meta = meta.copy(alloc)?;
     Ok(Details::published(meta, number, place, stamp, size, hash))
 }
@@ -70,33 +68,39 @@ fn put(alloc: Global, name: String, bytes: &[u8]) -> Result<Call, NoMemory>
 pub(crate) fn place_calls(
     alloc: Global,
     base: &str,
+    number: u32,
+    place: u32,
+    stamp: Ticks,
     details: &Details,
-    nuspec: &Bytes,
-    nupkg: &Bytes,
+    change: &Change,
 ) -> Result<Vec<Call>, NoMemory>
-    ensures { IfOk result (λ calls. calls.items ≡ place_puts base.now details.now.origin_number details.now.created details.now.origin_place (the.Details details.now ∷ []) (Some (record { nuspec = nuspec.now; nupkg = nupkg.now }) ∷ [])) }
+    ensures { IfOk result (λ calls. calls.items ≡ place_puts base.now number stamp place (the.Details details.now ∷ []) (staged_of change.now ∷ [])) }
 {
-    let number = details.origin_number;
-    let place = details.origin_place;
-    let leaf = details_bytes(alloc, base, number, place, details.created, details)?;
+    let Change::Publish {
+        nuspec,
+        package,
+        ..
+    } = change;
+    let leaf = details_bytes(alloc, base, number, place, stamp, details)?;
     let mut calls = Vec::new(alloc);
-    calls.push(put(alloc, nupkg_name(alloc, number, place)?, nupkg.as_slice())?)?;
+    calls.push(put(alloc, nupkg_name(alloc, number, place)?, package.as_slice())?)?;
     calls.push(put(alloc, nuspec_name(alloc, number, place)?, nuspec.as_slice())?)?;
     calls.push(put(alloc, leaf_name(alloc, number, place)?, leaf.as_slice())?)?;
     Ok(calls)
 }
 
-/// The put of a page with these rows.
+/// The put of a page with these rows and one more behind them.
 pub(crate) fn page_call(
     alloc: Global,
     base: &str,
     page: u32,
     rows: &[Row],
+    row: &Row,
 ) -> Result<Call, NoMemory>
-    ensures { IfOk result (λ call. call ≡ Put (page_name page) (page_text base.now page rows.now)) }
+    ensures { IfOk result (λ call. call ≡ Put (page_name page) (page_text base.now page (rows.now ++ row.now ∷ []))) }
 {
     let name = page_name(alloc, page)?;
-    let bytes = page_bytes(alloc, base, page, rows)?;
+    let bytes = longer_page_bytes(alloc, base, page, rows, row)?;
     Ok(Call::Put {
         name: Text::of(name),
         bytes,

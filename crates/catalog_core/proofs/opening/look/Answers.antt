@@ -1,23 +1,29 @@
-use Rattle.std.proofs.Common.{◌≡◌, ◌∙◌, sym, true, false, IsUtf8, ℕ, List, []}
+use Rattle.std.proofs.Common.{◌≡◌, List, Err, ap}
+use Rattle.std.specs.Result.{IsErrOf}
+use Rattle.catalog_core.specs.declared.error.OpenErr.TheVariants.{Unsupported}
+use Rattle.std.proofs.lemmas.Result.{err_from_is_err_and}
 use Rattle.feed_base.proofs.Options.{at_some}
-use Rattle.catalog_core.specs.Documents.{index_text}
-use Rattle.catalog_core.proofs.Openings.{at_none, opens_none, page_found, unsupported_index, unsupported_page}
+use Rattle.catalog_core.specs.Verdicts.{HaveDistinctPairs}
+use Rattle.catalog_core.specs.declared.row.Row.{Row}
+use Rattle.catalog_core.proofs.Finds.{catalog_found, no_catalog, twice_found}
+use Rattle.catalog_core.proofs.Openings.{at_none}
 use Rattle.catalog_core.proofs.opening.look.Goals as goal
 
-pub returns-then-is_some-clause-unsupported : goal.returns-then-is_some-clause-unsupported
-returns-then-is_some-clause-unsupported g c = λ _.
-    unsupported_page (g.B.Blobs.held c.args.area.now) _ c.in_ok-page.page c.in-Some.index c.in-Some.is (sym c.is_some.ensures ∙ c.if-is_some.true) c.in_ok-index.ensures.found
-    (page_found _ _ c.in_ok-page.page c.get.ensures.same c.in_ok-page.ensures.found)
+-- an error is the same in place of another value
+moved : {A B E : Type 0} (x y : E) → IsErrOf {T = A} {E = E} (Err x) y → IsErrOf {T = B} {E = E} (Err x) y
+moved x y e = let same : x ≡ y = cc e in ap Err same
 
-pub returns-in-Some-2-clause-ok : goal.returns-in-Some-2-clause-ok
-returns-in-Some-2-clause-ok g c =
-    let read = at_some c.in_ok-base.field-0 (λ (base : List ℕ). (c.as_slice.result.now ≡ index_text base []) × IsUtf8 base) c.in-Some-2.base c.in-Some-2.is c.in_ok-base.ensures.some in (
-      read.1,
-      opens_none (g.B.Blobs.held c.args.area.now) _ c.in_ok-page.page c.in-Some.index c.in-Some-2.base c.in-Some.is (sym c.is_some.ensures ∙ c.if-is_some.false) (sym c.as_slice.ensures ∙ read.0)
-          c.in_ok-index.ensures.found (page_found _ _ c.in_ok-page.page c.get.ensures.same c.in_ok-page.ensures.found),
-    )
+pub returns-in_err-base-clause-unsupported : goal.returns-in_err-base-clause-unsupported
+returns-in_err-base-clause-unsupported g c =
+    let p = err_from_is_err_and c.from_residual.result c.from_residual.ensures.1 in
+    rw (p.1, p.2) (λ e. no_catalog (g.B.Blobs.held c.args.area.now) (c.in_err-base.ensures.unsupported (moved c.in_err-base.field-0.0 Unsupported e)))
 
-pub returns-clause-unsupported : goal.returns-clause-unsupported
-returns-clause-unsupported g c = λ _.
-    let none : (base : List ℕ) → IsUtf8 base → c.as_slice.result.now ≡ index_text base [] → ⊥ = at_none c.in_ok-base.field-0 _ c.in-None.is c.in_ok-base.ensures.none in
-    unsupported_index (g.B.Blobs.held c.args.area.now) _ c.in-Some.index c.in-Some.is (λ base text is. none base text (c.as_slice.ensures ∙ is)) c.in_ok-index.ensures.found
+pub returns-clause-ok : goal.returns-clause-ok
+returns-clause-ok g c =
+    let own = at_some c.in_ok-rows.field-0 (λ (r : List Row). (r ≡ c.in_ok-base.field-0.rows) × HaveDistinctPairs c.in_ok-base.field-0.rows) c.in-Some.rows c.in-Some.is c.in_ok-rows.ensures.some in
+    catalog_found (g.B.Blobs.held c.args.area.now) c.in_ok-base.field-0.base c.in_ok-base.field-0.rows c.in-Some.rows c.in_ok-base.ensures.ok.0 c.in_ok-base.ensures.ok.1 own.1 own.0 c.in_ok-base.ensures.ok.2
+
+pub returns-in_default-clause-unsupported : goal.returns-in_default-clause-unsupported
+returns-in_default-clause-unsupported g c = λ _.
+    let twice = at_none c.in_ok-rows.field-0 (HaveDistinctPairs c.in_ok-base.field-0.rows → ⊥) c.in_default.is c.in_ok-rows.ensures.none in
+    twice_found (g.B.Blobs.held c.args.area.now) c.in_ok-base.field-0.base c.in_ok-base.field-0.rows c.in_ok-base.ensures.ok.1 twice c.in_ok-base.ensures.ok.2
