@@ -1,0 +1,9 @@
+pub mod Applied
+pub mod Gathered
+pub mod Lasts
+pub mod Numbers
+pub mod Origins
+pub mod Places
+pub mod Rising
+pub mod Stays
+pub mod Touches
