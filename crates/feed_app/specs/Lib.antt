@@ -1,3 +1,4 @@
+pub mod Bases
 pub mod Body
 pub mod Committed
 pub mod Cuts

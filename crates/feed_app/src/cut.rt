@@ -52,6 +52,22 @@ pub(crate) fn cut(bytes: &[u8], mark: u8) -> Option<Sides<'_>>
     })
 }
 
+/// What stands behind the prefix.
+pub(crate) fn behind<'a>(bytes: &'a [u8], prefix: &[u8]) -> Option<&'a [u8]>
+    ensures { MatchOption result ((rest : List ℕ) → bytes.now ≡ prefix.now ++ rest → ⊥)
+        (λ rest. bytes.now ≡ prefix.now ++ rest.now) }
+{
+    bytes.strip_prefix(prefix)
+}
+
+/// What stands before the suffix.
+pub(crate) fn before<'a>(bytes: &'a [u8], suffix: &[u8]) -> Option<&'a [u8]>
+    ensures { MatchOption result ((front : List ℕ) → bytes.now ≡ front ++ suffix.now → ⊥)
+        (λ front. bytes.now ≡ front.now ++ suffix.now) }
+{
+    bytes.strip_suffix(suffix)
+}
+
 // The bytes as text, where they are UTF-8.
 pub(crate) fn text_of(bytes: &[u8]) -> Option<&str>
     ensures found { IfSome result (λ text. text.now ≡ bytes.now) }

@@ -2,12 +2,14 @@
 #![tactic(auto)]
 
 mod answer;
+mod base;
 mod body;
 mod command;
 mod cut;
 mod input;
 mod meta;
 mod publish;
+mod start;
 #[cfg(test)]
 mod tests;
 mod words;

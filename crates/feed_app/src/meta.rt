@@ -8,7 +8,7 @@ ghost use Rattle.nuget_version.specs.declared.version.Version.{Version};
 ghost use Rattle.feed_app.specs.declared.cut.Three.{Three};
 ghost use Rattle.pkg_meta.specs.declared.meta.Meta.{Meta};
 
-use crate::cut::{Three, cut, text_of};
+use crate::cut::{Three, before, behind, cut, text_of};
 use nuget_version::VersionErr;
 use package_id::IdErr;
 use pkg_meta::{Meta, NoMemory, PackageId, Text, Version};
@@ -19,22 +19,6 @@ use std::alloc::Global;
 struct Fields<'a> {
     id: &'a [u8],
     verbatim: &'a [u8],
-}
-
-// What stands behind the prefix.
-fn behind<'a>(bytes: &'a [u8], prefix: &[u8]) -> Option<&'a [u8]>
-    ensures { MatchOption result ((rest : List ℕ) → bytes.now ≡ prefix.now ++ rest → ⊥)
-        (λ rest. bytes.now ≡ prefix.now ++ rest.now) }
-{
-    bytes.strip_prefix(prefix)
-}
-
-// What stands before the suffix.
-fn before<'a>(bytes: &'a [u8], suffix: &[u8]) -> Option<&'a [u8]>
-    ensures { MatchOption result ((front : List ℕ) → bytes.now ≡ front ++ suffix.now → ⊥)
-        (λ front. bytes.now ≡ front.now ++ suffix.now) }
-{
-    bytes.strip_suffix(suffix)
 }
 
 // The texts of the metadata; the id's grammar and the version's are read later.

@@ -10,21 +10,40 @@ use std::test::Fail;
 // 2024-01-01T00:00:00
 const NEW_YEAR: u64 = 638_396_640_000_000_000;
 
+// 9999-12-31T23:59:59.9999999
+const LAST: u64 = 3_155_378_975_999_999_999;
+
 const FOO: &str = "30 10 3\n{\"id\":\"Foo\",\"version\":\"1.0.0\"}<package/>abc";
 
 const SHORT: &str = "28 10 3\n{\"id\":\"Foo\",\"version\":\"1.0\"}<package/>abc";
 
 const LONGER: &str = "30 10 4\n{\"id\":\"Foo\",\"version\":\"1.0.0\"}<package/>abc";
 
+const BAR: &str = "30 10 3\n{\"id\":\"Bar\",\"version\":\"1.0.0\"}<package/>abc";
+
+const FOO_IN_CAPITALS: &str = "30 10 3\n{\"id\":\"FOO\",\"version\":\"1.0.0\"}<package/>abc";
+
+const USAGE: &str =
+    "usage: feed <folder> init|publish|unlist|list|delete|job|cursor|get|verify|script|generate|serve\n";
+
 const DONE: &str = "committed 1 2024-01-01T00:00:00.0000000Z\n";
 
-// The names of the first commit's puts, in order.
-const NAMES: [&str; 5] = [
-    "staged/1/0.nupkg",
-    "staged/1/0.nuspec",
-    "data/1/0.json",
-    "page0.json",
-    "index.json",
+const LEAF: &str =
+    "{\"@id\":\"http://f.test/v3/catalog/data/1/0.json\",\"@type\":[\"PackageDetails\"],\"catalog:commitId\":\"00000000-0000-0000-0000-000000000001\",\"catalog:commitTimeStamp\":\"2024-01-01T00:00:00.0000000Z\",\"created\":\"2024-01-01T00:00:00.0000000Z\",\"id\":\"Foo\",\"isPrerelease\":false,\"listed\":true,\"origin\":\"1/0\",\"packageHash\":\"3a81oZNherrMQXNJriBBMRLm+k6JqX6iCp7u5ktV05ohkpkqJ0/BqDa6PCOj/uu9RU1EI2Q86A4qmslPpUyknw==\",\"packageHashAlgorithm\":\"SHA512\",\"packageSize\":3,\"published\":\"2024-01-01T00:00:00.0000000Z\",\"verbatimVersion\":\"1.0.0\",\"version\":\"1.0.0\"}";
+
+const PAGE: &str =
+    "{\"@id\":\"http://f.test/v3/catalog/page0.json\",\"commitId\":\"00000000-0000-0000-0000-000000000001\",\"commitTimeStamp\":\"2024-01-01T00:00:00.0000000Z\",\"count\":1,\"items\":[{\"@id\":\"http://f.test/v3/catalog/data/1/0.json\",\"@type\":\"nuget:PackageDetails\",\"commitId\":\"00000000-0000-0000-0000-000000000001\",\"commitTimeStamp\":\"2024-01-01T00:00:00.0000000Z\",\"nuget:id\":\"Foo\",\"nuget:version\":\"1.0.0\"}],\"parent\":\"http://f.test/v3/catalog/index.json\"}";
+
+const INDEX: &str =
+    "{\"@id\":\"http://f.test/v3/catalog/index.json\",\"commitId\":\"00000000-0000-0000-0000-000000000001\",\"commitTimeStamp\":\"2024-01-01T00:00:00.0000000Z\",\"count\":1,\"items\":[{\"@id\":\"http://f.test/v3/catalog/page0.json\",\"commitId\":\"00000000-0000-0000-0000-000000000001\",\"commitTimeStamp\":\"2024-01-01T00:00:00.0000000Z\",\"count\":1}]}";
+
+// What the first publish leaves, by name.
+const FIRST: [(&str, &str); 5] = [
+    ("staged/1/0.nupkg", "abc"),
+    ("staged/1/0.nuspec", "<package/>"),
+    ("data/1/0.json", LEAF),
+    ("page0.json", PAGE),
+    ("index.json", INDEX),
 ];
 
 fn stores(alloc: Global, fails: &[Fault], begun: bool) -> Result<Stores<MemBlobs>, NoMemory> {
@@ -81,27 +100,25 @@ fn words_of(alloc: Global, words: &[&str]) -> Result<Vec<String>, NoMemory> {
 #[test]
 fn answers_with_status_and_line(rt: HostRuntime) -> Result<(), Fail> {
     let alloc = rt.alloc();
-    let usage =
-        "usage: feed <folder> init|publish|unlist|list|delete|job|cursor|get|verify|script|generate|serve\n";
     let refused = "refused unsupported\n";
     let cases = [
         PLAIN,
         Case {
             words: &[],
             status: 2,
-            line: usage,
+            line: USAGE,
             ..PLAIN
         },
         Case {
             words: &["publish", "publish"],
             status: 2,
-            line: usage,
+            line: USAGE,
             ..PLAIN
         },
         Case {
             words: &["Publish"],
             status: 2,
-            line: usage,
+            line: USAGE,
             ..PLAIN
         },
         Case {
@@ -167,39 +184,217 @@ fn answers_with_status_and_line(rt: HostRuntime) -> Result<(), Fail> {
     Ok(())
 }
 
-#[test]
-fn a_failed_put_is_a_store_fault(rt: HostRuntime) -> Result<(), Fail> {
-    let alloc = rt.alloc();
+// What a publish of this body is told on these stores, at this tick, and what it leaves of the stores.
+fn publish(
+    alloc: Global,
+    stores: Stores<MemBlobs>,
+    body: &str,
+    tick: u64,
+) -> Result<(u8, SinkMem, Stores<MemBlobs>), NoMemory> {
     let words = words_of(alloc, &["publish"])?;
+    let body = Bytes::copy_of(alloc, body.as_bytes())?;
+    let mut input = SourceMem::of(alloc, body, &[])?;
+    let mut output = SinkMem::new(alloc, 200, &[])?;
+    let mut clock = ClockList::of(alloc, &[tick.min(LAST)])?;
+    let (status, stores) = run_command(alloc, &words, stores, &mut input, &mut output, &mut clock);
+    Ok((status.number, output, stores))
+}
+
+// What the first publish answers when it is tried again, by how many of its puts took effect.
+const AGAIN: [&str; 6] = [
+    DONE,
+    DONE,
+    DONE,
+    DONE,
+    "refused unsupported\n",
+    "refused exists 0 1\n",
+];
+
+#[test]
+fn a_failed_put_leaves_a_front(rt: HostRuntime) -> Result<(), Fail> {
+    let alloc = rt.alloc();
     for took in [false, true] {
-        for done in 0..5 {
+        for done in 0..5u64 {
             // Two calls make the catalog, and two open it.
             let fails = [Fault {
                 call: done + 5,
                 took,
             }];
             let stores = stores(alloc, &fails, true)?;
-            let body = Bytes::copy_of(alloc, FOO.as_bytes())?;
-            let mut input = SourceMem::of(alloc, body, &[])?;
-            let mut output = SinkMem::new(alloc, 200, &[])?;
-            let mut clock = ClockList::of(alloc, &[NEW_YEAR])?;
-            let (status, stores) = run_command(
-                alloc,
-                &words,
-                stores,
-                &mut input,
-                &mut output,
-                &mut clock,
-            );
-            assert_eq!(rt; status.number, 4);
+            let (status, output, stores) = publish(alloc, stores, FOO, NEW_YEAR)?;
+            assert_eq!(rt; status, 4);
             assert_eq!(rt; output.bytes(), "fault catalog\n".as_bytes());
-            let mut catalog = stores.catalog;
+            let (_, again, _) = publish(alloc, stores, FOO, NEW_YEAR)?;
             let held = if took { done + 1 } else { done };
-            for (place, name) in NAMES.iter().take(4).enumerate() {
-                let there = matches!(catalog.get(alloc, name), Ok(Some(_)));
-                assert_eq!(rt; there, (place as u64) < held, "{name}, {held}");
+            for (place, line) in AGAIN.iter().enumerate() {
+                if place as u64 == held {
+                    assert_eq!(rt; again.bytes(), line.as_bytes(), "{held}");
+                }
             }
         }
+    }
+    Ok(())
+}
+
+#[test]
+fn the_first_publish_writes_its_documents(rt: HostRuntime) -> Result<(), Fail> {
+    let alloc = rt.alloc();
+    let mut stores = stores(alloc, &[], true)?;
+    // The same publish again, in other case too, is refused and changes nothing.
+    for (body, line) in [
+        (FOO, DONE),
+        (FOO, "refused exists 0 1\n"),
+        (FOO_IN_CAPITALS, "refused exists 0 1\n"),
+    ] {
+        let (_, output, left) = publish(alloc, stores, body, NEW_YEAR)?;
+        assert_eq!(rt; output.bytes(), line.as_bytes());
+        stores = left;
+        for (name, text) in FIRST {
+            match stores.catalog.get(alloc, name) {
+                Ok(Some(bytes)) => assert_eq!(rt; bytes.as_slice(), text.as_bytes(), "{name}"),
+                _ => assert!(rt; false, "{name}"),
+            }
+        }
+    }
+    Ok(())
+}
+
+#[test]
+fn publishes_follow_each_other(rt: HostRuntime) -> Result<(), Fail> {
+    let alloc = rt.alloc();
+    for (first, line, second) in [
+        (
+            NEW_YEAR + 36_000_000_000,
+            "committed 1 2024-01-01T01:00:00.0000000Z\n",
+            "committed 2 2024-01-01T01:00:00.0000001Z\n",
+        ),
+        (
+            LAST,
+            "committed 1 9999-12-31T23:59:59.9999999Z\n",
+            "refused clockend\n",
+        ),
+    ] {
+        let stores = stores(alloc, &[], true)?;
+        let (_, output, stores) = publish(alloc, stores, FOO, first)?;
+        assert_eq!(rt; output.bytes(), line.as_bytes());
+        let (_, output, _) = publish(alloc, stores, BAR, NEW_YEAR)?;
+        assert_eq!(rt; output.bytes(), second.as_bytes());
+    }
+    Ok(())
+}
+
+// A document of the first publish, and a piece of it with what stands in its place.
+const DAMAGE: [(&str, &str, &str, &str); 8] = [
+    ("index.json", INDEX, "]}", "]"),
+    ("index.json", INDEX, "]}", "]} "),
+    (
+        "index.json",
+        INDEX,
+        "\"count\":1,",
+        "\"count\":1,\"counted\":1,",
+    ),
+    ("index.json", INDEX, "{", ""),
+    ("page0.json", PAGE, "\"count\":1,", "\"count\":2,"),
+    (
+        "page0.json",
+        PAGE,
+        "\"nuget:version\":\"1.0.0\"",
+        "\"nuget:version\":\"1.0\"",
+    ),
+    (
+        "page0.json",
+        PAGE,
+        "\"nuget:id\":\"Foo\",\"nuget:version\":\"1.0.0\"",
+        "\"nuget:version\":\"1.0.0\",\"nuget:id\":\"Foo\"",
+    ),
+    ("page0.json", PAGE, PAGE, "{}"),
+];
+
+#[test]
+fn damaged_documents_are_not_opened(rt: HostRuntime) -> Result<(), Fail> {
+    let alloc = rt.alloc();
+    for (name, text, old, new) in DAMAGE {
+        let stores = stores(alloc, &[], true)?;
+        let (_, _, mut stores) = publish(alloc, stores, FOO, NEW_YEAR)?;
+        let damaged = text.replace(alloc, old, new)?;
+        assert_eq!(rt; stores.catalog.put(alloc, name, damaged.as_bytes()), Ok(()));
+        let (_, output, _) = publish(alloc, stores, BAR, NEW_YEAR)?;
+        assert_eq!(rt;
+            output.bytes(),
+            "refused unsupported\n".as_bytes(),
+            "{name}: {new}"
+        );
+    }
+    Ok(())
+}
+
+// The first page of so many publishes of Foo, with patch numbers from 1.
+fn page_of(alloc: Global, count: u64) -> Result<String, NoMemory> {
+    let mut rows = String::new(alloc);
+    for number in 1..=count {
+        let row = format!(in alloc;
+            "{{\"@id\":\"http://f.test/v3/catalog/data/{number}/0.json\",\"@type\":\"nuget:PackageDetails\",\"commitId\":\"00000000-0000-0000-0000-{number:012x}\",\"commitTimeStamp\":\"2024-01-01T00:00:00.{number:07}Z\",\"nuget:id\":\"Foo\",\"nuget:version\":\"1.0.{number}\"}}"
+        )?;
+        if number > 1 {
+            rows.push_str(",")?;
+        }
+        rows.push_str(&row)?;
+    }
+    let page = format!(in alloc;
+        "{{\"@id\":\"http://f.test/v3/catalog/page0.json\",\"commitId\":\"00000000-0000-0000-0000-{count:012x}\",\"commitTimeStamp\":\"2024-01-01T00:00:00.{count:07}Z\",\"count\":{count},\"items\":[{rows}],\"parent\":\"http://f.test/v3/catalog/index.json\"}}"
+    )?;
+    Ok(page)
+}
+
+// The index above it.
+fn index_of(alloc: Global, count: u64) -> Result<String, NoMemory> {
+    let index = format!(in alloc;
+        "{{\"@id\":\"http://f.test/v3/catalog/index.json\",\"commitId\":\"00000000-0000-0000-0000-{count:012x}\",\"commitTimeStamp\":\"2024-01-01T00:00:00.{count:07}Z\",\"count\":1,\"items\":[{{\"@id\":\"http://f.test/v3/catalog/page0.json\",\"commitId\":\"00000000-0000-0000-0000-{count:012x}\",\"commitTimeStamp\":\"2024-01-01T00:00:00.{count:07}Z\",\"count\":{count}}}]}}"
+    )?;
+    Ok(index)
+}
+
+#[test]
+fn a_catalog_has_room_for_512_items(rt: HostRuntime) -> Result<(), Fail> {
+    let alloc = rt.alloc();
+    for (count, line) in [
+        (511, "committed 512 2024-01-01T00:00:00.0000512Z\n"),
+        (512, "refused unsupported\n"),
+    ] {
+        let mut stores = stores(alloc, &[], false)?;
+        let page = page_of(alloc, count)?;
+        let index = index_of(alloc, count)?;
+        assert_eq!(rt;
+            stores.catalog.put(alloc, "page0.json", page.as_bytes()),
+            Ok(())
+        );
+        assert_eq!(rt;
+            stores.catalog.put(alloc, "index.json", index.as_bytes()),
+            Ok(())
+        );
+        let (_, output, _) = publish(alloc, stores, BAR, NEW_YEAR)?;
+        assert_eq!(rt; output.bytes(), line.as_bytes());
+    }
+    Ok(())
+}
+
+#[test]
+fn a_catalog_is_made_once(rt: HostRuntime) -> Result<(), Fail> {
+    let alloc = rt.alloc();
+    let mut stores = stores(alloc, &[], false)?;
+    for (base, status, line) in [
+        ("http://f.test", 2, USAGE),
+        ("http://f.test/", 0, "initialised\n"),
+        ("http://f.test/", 3, "refused initialised\n"),
+    ] {
+        let words = words_of(alloc, &["init", base])?;
+        let mut input = SourceMem::of(alloc, Bytes::copy_of(alloc, b"")?, &[])?;
+        let mut output = SinkMem::new(alloc, 200, &[])?;
+        let mut clock = ClockList::of(alloc, &[NEW_YEAR])?;
+        let (told, left) = run_command(alloc, &words, stores, &mut input, &mut output, &mut clock);
+        assert_eq!(rt; told.number, status);
+        assert_eq!(rt; output.bytes(), line.as_bytes());
+        stores = left;
     }
     Ok(())
 }

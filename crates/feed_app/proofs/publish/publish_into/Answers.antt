@@ -1,13 +1,33 @@
-use Rattle.std.proofs.Common.{Err, arith}
-use Rattle.feed_app.proofs.Endings.{begun, not_made}
+use Rattle.std.proofs.Common.{Err, ap, arith}
+use Rattle.std.proofs.lemmas.Result.{IfErr-weaker}
+use Rattle.catalog_core.proofs.Grown.{simple_of_plain}
+use Rattle.catalog_core.specs.Verdicts.{verdict}
+use Rattle.feed_app.proofs.Endings.{committed, ended}
 use Rattle.feed_app.proofs.publish.publish_into.Goals as goal
+
+pub returns-in-Ok-commit-clause-ends : goal.returns-in-Ok-commit-clause-ends
+returns-in-Ok-commit-clause-ends g c =
+    let opened = c.in-Ok.ensures.ok in
+    let simple = simple_of_plain opened.0 opened.1.1 in
+    let told = c.in-Ok-commit.ensures.ok opened.0 simple opened.2 in
+    rw c.into_area-in-Ok-commit.ensures (
+      c.moment-now.result,
+      c.moment-now.ensures,
+      committed c.args.publish.meta c.args.publish.nuspec c.args.publish.nupkg c.in-Ok.catalog.base opened.0 c.moment-now.result _ _ c.in-Ok-changes_of.changes
+          (g.B.Blobs.held c.args.area) (g.B.Blobs.held c.in-Ok.catalog.area) (g.B.Blobs.held c.commit.new.self.area)
+          c.in-Ok-changes_of.ensures c.in-Ok.ensures.kept opened.1 (c.in-Ok-commit.ensures.taken opened.0 simple opened.2) told.0 told.1 told.3,
+    )
 
 pub returns-clause-ends : goal.returns-clause-ends
 returns-clause-ends g c =
     let opened = c.in-Ok.ensures.ok in
+    let simple = simple_of_plain opened.0 opened.1.1 in
     rw (c.into_area-in-Err-commit.ensures, c.of_commit.ensures)
-    (not_made c.in-Err-commit.error c.args.publish.meta c.args.publish.nuspec c.args.publish.nupkg _ (g.B.Blobs.held c.args.area) (g.B.Blobs.held c.commit.new.self.area) _ _
-    (λ e. (c.in-Err-commit.ensures.unsupported (λ i. Err (e i))).0 opened.1)
-    (λ e. omega (arith, c.in-Ok.ensures.later, (c.in-Err-commit.ensures.fault (λ i. Err (e i))).1))
-    (begun _ _ _ c.in-Ok.catalog.base c.moment-now.result c.in-Ok-changes_of.changes (g.B.Blobs.held c.args.area) (g.B.Blobs.held c.in-Ok.catalog.area) (g.B.Blobs.held c.commit.new.self.area) c.in-Ok-changes_of.ensures opened.2 opened.3
-    (c.in-Err-commit.ensures.front opened.1)))
+    (ended c.in-Err-commit.error c.args.publish.meta c.args.publish.nuspec c.args.publish.nupkg c.in-Ok.catalog.base opened.0 c.moment-now.result c.in-Ok-changes_of.changes _
+    (g.B.Blobs.held c.args.area) (g.B.Blobs.held c.in-Ok.catalog.area) (g.B.Blobs.held c.commit.new.self.area) _ _
+    c.in-Ok-changes_of.ensures c.in-Ok.ensures.kept opened.1 c.moment-now.ensures
+    (λ i. c.in-Err-commit.ensures.refused i opened.0 simple opened.2)
+    (λ i. ap (λ o. g.B.Blobs.held o.area) (c.in-Err-commit.ensures.untouched i))
+    (λ e. omega (arith, c.in-Ok.ensures.later, c.in-Err-commit.ensures.fault (λ i. Err (e i))))
+    (IfErr-weaker (verdict opened.0 c.in-Ok-changes_of.changes c.moment-now.result) _ _ (λ e h. ap (λ o. g.B.Blobs.held o.area) h.1) (c.in-Err-commit.ensures.exactly opened.0 simple opened.2))
+    (c.in-Err-commit.ensures.front opened.0 simple opened.2))
