@@ -1,6 +1,6 @@
 #!/bin/sh
-# Drives the built program `feed` on a folder of its own: init, a publish, the content job, reads, and refusals, each
-# of which has to leave every file as it was. Then it measures puts a second, which passes and fails nothing.
+# Drives the built program `feed` on a folder of its own: init, publishes, and refusals, each of which has to leave every
+# file as it was. Then it measures puts a second, which passes and fails nothing.
 #
 # Use: sh checks/folder.sh [PROGRAM]
 # PROGRAM is crates/feed/out/feed unless it is given, where `rt ci` without names and `rt run` leave it.
@@ -61,11 +61,10 @@ does() {
   check "$*"
 }
 
-# gives WORDS..: answers exactly the file `want` with status 0.
-gives() {
-  run "$@"
-  answered 0
-  check "$*"
+# holds NAME: the blob of the catalog's area is exactly the file `want`.
+holds() {
+  cmp -s "$work/want" "$store/catalog/$1"
+  check "$1"
 }
 
 # refuses WHAT STATUS LINE WORDS..: answers this line with this status, and leaves every file as it was.
@@ -99,7 +98,7 @@ cp "$work/nothing" "$work/input"
 
 does initialised init http://f.test/
 printf '%s' '{"@id":"http://f.test/v3/catalog/index.json","commitId":"'$zeros'0","commitTimeStamp":"0001-01-01T00:00:00.0000000Z","count":0,"items":[]}' >"$work/want"
-gives get /v3/catalog/index.json
+holds index.json
 refuses 'a second init' 3 'refused initialised' init http://f.test/
 
 # The clock is the system's, so the stamp has only its form; the documents have to have the one that was printed.
@@ -118,27 +117,22 @@ cp "$work/cut" "$work/input"
 refuses 'a publish cut by one byte' 3 'refused unsupported' publish
 cp "$work/nothing" "$work/input"
 
-does 'done content 1' job content
-refuses 'the job again' 3 'refused unsupported' job content
-
-printf '%s' '{"versions":["1.0.0"]}' >"$work/want"
-gives get /v3/flat/foo/index.json
 printf '%s' 'abc' >"$work/want"
-gives get /v3/flat/foo/1.0.0/foo.1.0.0.nupkg
+holds staged/1/0.nupkg
 printf '%s' '<package/>' >"$work/want"
-gives get /v3/flat/foo/1.0.0/foo.nuspec
+holds staged/1/0.nuspec
 
 printf '%s' '{"@id":"http://f.test/v3/catalog/data/1/0.json","@type":["PackageDetails"],"catalog:commitId":"'$zeros'1","catalog:commitTimeStamp":"'"$stamp"'","created":"'"$stamp"'","id":"Foo","isPrerelease":false,"listed":true,"origin":"1/0","packageHash":"'$hash'","packageHashAlgorithm":"SHA512","packageSize":3,"published":"'"$stamp"'","verbatimVersion":"1.0.0","version":"1.0.0"}' >"$work/want"
-gives get /v3/catalog/data/1/0.json
+holds data/1/0.json
 printf '%s' '{"@id":"http://f.test/v3/catalog/page0.json","commitId":"'$zeros'1","commitTimeStamp":"'"$stamp"'","count":1,"items":[{"@id":"http://f.test/v3/catalog/data/1/0.json","@type":"nuget:PackageDetails","commitId":"'$zeros'1","commitTimeStamp":"'"$stamp"'","nuget:id":"Foo","nuget:version":"1.0.0"}],"parent":"http://f.test/v3/catalog/index.json"}' >"$work/want"
-gives get /v3/catalog/page0.json
+holds page0.json
 printf '%s' '{"@id":"http://f.test/v3/catalog/index.json","commitId":"'$zeros'1","commitTimeStamp":"'"$stamp"'","count":1,"items":[{"@id":"http://f.test/v3/catalog/page0.json","commitId":"'$zeros'1","commitTimeStamp":"'"$stamp"'","count":1}]}' >"$work/want"
-gives get /v3/catalog/index.json
+holds index.json
 
 refuses 'no word that is known' 2 "$usage" dance
 refuses 'no word at all' 2 "$usage"
-refuses 'a path of no document' 3 'refused missing' get /v3/nothing
-refuses 'a path that leaves the folder' 3 'refused missing' get /v3/catalog/../content/cursor.json
+refuses 'init without a base' 2 "$usage" init
+refuses 'init with a base of another form' 2 "$usage" init http://f.test
 
 # What is left is exactly these files, so no temporary one.
 (cd "$store" && find . -type f | sort) >"$work/after"
@@ -148,18 +142,21 @@ cat >"$work/want" <<'EOF'
 ./catalog/page0.json
 ./catalog/staged/1/0.nupkg
 ./catalog/staged/1/0.nuspec
-./content/cursor.json
-./content/d/foo/1.0.0/foo.1.0.0.nupkg
-./content/d/foo/1.0.0/foo.nuspec
-./content/d/foo/index.json
 EOF
 cmp -s "$work/want" "$work/after"
-check 'the folder holds exactly the files of one publish and its content'
-printf '%s' '{"commitId":"'$zeros'1","commitTimeStamp":"'"$stamp"'"}' >"$work/want"
-cmp -s "$work/want" "$store/content/cursor.json"
-check 'the cursor is at the first commit'
-[ "$(cat "$store/catalog/staged/1/0.nupkg")" = abc ] && [ "$(cat "$store/catalog/staged/1/0.nuspec")" = '<package/>' ]
-check 'the staged files are those of the publish'
+check 'the folder holds exactly the files of one publish'
+
+# A second publish, under another id: the page and the index are written anew, the rest is as it was.
+printf '30 10 3\n{"id":"Bar","version":"1.0.0"}<package/>abc' >"$work/input"
+files | grep -v -e page0 -e index >"$work/before"
+run publish
+[ "$status" -eq 0 ] && grep -q '^committed 2 ' "$work/output"
+check 'a second publish'
+files | grep -v -e page0 -e index -e /2/ >"$work/after"
+cmp -s "$work/before" "$work/after"
+check 'a second publish leaves what the first one brought'
+grep -q '"count":2' "$store/catalog/page0.json"
+check 'the page has both items'
 
 # Puts a second of 50 publishes, each a process that opens the catalog and makes five puts, beside a plain loop in one
 # process that writes, syncs and renames files of the same lengths, and syncs their folder.

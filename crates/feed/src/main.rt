@@ -1,48 +1,38 @@
-//! The program `feed`: one publish into a feed in memory.
+//! The program `feed`: a package feed in a folder.
 //!
-//! Its first word is a folder, which isn't used yet; the words behind it are the command's.
+//! Its first word is the folder, in which `catalog` and the four hives have folders of their own; the words behind it
+//! are the command's. The input is standard input, the answer goes to standard output, and the clock is the system's.
 #![tactic(auto)]
 
-mod streams;
+mod folders;
+mod host;
 
-use blob_store::MemBlobs;
-use catalog_core::init;
-use feed_app::{Stores, run_command};
-use feed_base::{ClockList, NoMemory};
+use feed_app::run_command;
+use feed_base::NoMemory;
+use folders::stores;
+use host::{Reading, SystemClock, Writing};
 use std::alloc::Global;
 use std::process::ExitCode;
 use std::{env, io};
-use streams::{Reading, Writing};
 
-// The address that documents are served below.
-const BASE: &str = "http://f.test/";
-
-// The clock's moment, 2024-01-01T00:00:00, in ticks of 100 nanoseconds since the beginning of the year 1.
-const NOW: u64 = 638_396_640_000_000_000;
-
-// The stores of a feed that has no commit.
-fn stores(alloc: Global) -> Result<Stores<MemBlobs>, NoMemory> {
-    let Ok(catalog) = init(alloc, MemBlobs::new(alloc), BASE) else {
-        return Err(NoMemory);
-    };
-    Ok(Stores {
-        catalog: catalog.into_area(),
-        plain: MemBlobs::new(alloc),
-        semver2: MemBlobs::new(alloc),
-        content: MemBlobs::new(alloc),
-        auto: MemBlobs::new(alloc),
-    })
+// The program's words: the folder, and the command's words. Without a folder there are no words.
+#[derive(Drop)]
+struct Words {
+    folder: String,
+    command: Vec<String>,
 }
 
-// The command's words, which stand behind the program's name and the folder.
-fn command_words(alloc: Global, all: Vec<String>) -> Result<Vec<String>, NoMemory> {
-    let mut words = Vec::new(alloc);
-    let mut place = 0u64;
-    for word in all {
-        if place >= 2 {
-            words.push(word)?;
+fn words_of(alloc: Global, all: Vec<String>) -> Result<Words, NoMemory> {
+    let mut words = Words {
+        folder: String::new(alloc),
+        command: Vec::new(alloc),
+    };
+    for (place, word) in all.into_iter().enumerate() {
+        match place {
+            0 => (),
+            1 => words.folder = word,
+            _ => words.command.push(word)?,
         }
-        place = place.saturating_add(1);
     }
     Ok(words)
 }
@@ -57,14 +47,22 @@ fn main(rt: HostRuntime) -> io::Result<ExitCode> {
     }
     let mut output = Writing::new(io::writer(&rt));
     let mut input = Reading::new(rt.reader());
-    let (Ok(words), Ok(stores), Ok(mut clock)) = (
-        command_words(alloc, all),
-        stores(alloc),
-        ClockList::of(alloc, &[NOW]),
-    ) else {
+    let mut clock = SystemClock::new(&rt);
+    let Ok(words) = words_of(alloc, all) else {
         println!(rt; "memory")?;
         return Ok(ExitCode::from(8));
     };
-    let (status, _) = run_command(alloc, &words, stores, &mut input, &mut output, &mut clock);
+    let Ok(stores) = stores(&rt, alloc, &words.folder) else {
+        println!(rt; "memory")?;
+        return Ok(ExitCode::from(8));
+    };
+    let (status, _) = run_command(
+        alloc,
+        &words.command,
+        stores,
+        &mut input,
+        &mut output,
+        &mut clock,
+    );
     Ok(ExitCode::from(status.number))
 }
