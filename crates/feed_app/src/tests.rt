@@ -210,22 +210,32 @@ const AGAIN: [&str; 6] = [
     "refused exists 0 1\n",
 ];
 
+// How many of the first publish's puts took effect where this call of the store fails. Two calls make the catalog, two
+// open it, and five put the commit.
+fn puts_done(call: u64, took: bool) -> u64 {
+    let before = call.saturating_sub(5);
+    if took && call > 4 {
+        before.saturating_add(1)
+    } else {
+        before
+    }
+}
+
 #[test]
-fn a_failed_put_leaves_a_front(rt: HostRuntime) -> Result<(), Fail> {
+fn a_failed_call_leaves_a_front(rt: HostRuntime) -> Result<(), Fail> {
     let alloc = rt.alloc();
     for took in [false, true] {
-        for done in 0..5u64 {
-            // Two calls make the catalog, and two open it.
-            let fails = [Fault {
-                call: done + 5,
-                took,
-            }];
-            let stores = stores(alloc, &fails, true)?;
-            let (status, output, stores) = publish(alloc, stores, FOO, NEW_YEAR)?;
+        for call in 3..10u64 {
+            let stores = stores(alloc, &[Fault { call, took }], true)?;
+            let (status, output, mut stores) = publish(alloc, stores, FOO, NEW_YEAR)?;
             assert_eq!(rt; status, 4);
             assert_eq!(rt; output.bytes(), "fault catalog\n".as_bytes());
+            let held = puts_done(call, took);
+            for (place, (name, _)) in FIRST.iter().enumerate().take(4) {
+                let there = matches!(stores.catalog.get(alloc, name), Ok(Some(_)));
+                assert_eq!(rt; there, (place as u64) < held, "{name}, {held}");
+            }
             let (_, again, _) = publish(alloc, stores, FOO, NEW_YEAR)?;
-            let held = if took { done + 1 } else { done };
             for (place, line) in AGAIN.iter().enumerate() {
                 if place as u64 == held {
                     assert_eq!(rt; again.bytes(), line.as_bytes(), "{held}");
@@ -284,7 +294,13 @@ fn publishes_follow_each_other(rt: HostRuntime) -> Result<(), Fail> {
 }
 
 // A document of the first publish, and a piece of it with what stands in its place.
-const DAMAGE: [(&str, &str, &str, &str); 8] = [
+const DAMAGE: [(&str, &str, &str, &str); 9] = [
+    (
+        "page0.json",
+        PAGE,
+        "}],",
+        "},{\"@id\":\"http://f.test/v3/catalog/data/1/0.json\",\"@type\":\"nuget:PackageDetails\",\"commitId\":\"00000000-0000-0000-0000-000000000001\",\"commitTimeStamp\":\"2024-01-01T00:00:00.0000000Z\",\"nuget:id\":\"Foo\",\"nuget:version\":\"1.0.0\"}],",
+    ),
     ("index.json", INDEX, "]}", "]"),
     ("index.json", INDEX, "]}", "]} "),
     (
@@ -324,6 +340,22 @@ fn damaged_documents_are_not_opened(rt: HostRuntime) -> Result<(), Fail> {
             "refused unsupported\n".as_bytes(),
             "{name}: {new}"
         );
+    }
+    Ok(())
+}
+
+#[test]
+fn absent_documents_are_told(rt: HostRuntime) -> Result<(), Fail> {
+    let alloc = rt.alloc();
+    for (name, line) in [
+        ("page0.json", "refused unsupported\n"),
+        ("index.json", "refused uninitialised\n"),
+    ] {
+        let stores = stores(alloc, &[], true)?;
+        let (_, _, mut stores) = publish(alloc, stores, FOO, NEW_YEAR)?;
+        assert_eq!(rt; stores.catalog.delete(alloc, name), Ok(()));
+        let (_, output, _) = publish(alloc, stores, BAR, NEW_YEAR)?;
+        assert_eq!(rt; output.bytes(), line.as_bytes(), "{name}");
     }
     Ok(())
 }
