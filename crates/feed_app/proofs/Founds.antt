@@ -32,23 +32,23 @@ normal_plain : (v : Version) → IsPlainVersion v → normal_text v ≡ triple v
 unfolding normal_text
 normal_plain v plain = rw (plain.revision, plain.labels, append-nil (decimal v.patch), append-nil (decimal v.major ++ 46 ∷ (decimal v.minor ++ 46 ∷ decimal v.patch))) refl
 
-bare_meta : (bytes : List ℕ) (m : Meta) → IsBare bytes m → IsBareMeta m
+pub bare_meta : (bytes : List ℕ) (m : Meta) → IsBare bytes m → IsBareMeta m
 bare_meta bytes m bare = record {
   version = record { revision = bare.revision; labels = bare.labels; meta = bare.meta };
   verbatim = bare.three ∙ sym (normal_plain m.version (record { revision = bare.revision; labels = bare.labels; meta = bare.meta }));
 }
 
 -- all commits stand on the first page
-first_page : (cs : Catalog) (c : Stored) → length (all_rows (cs ++ c ∷ [])) ≤ page_room → length (pages_of (cs ++ c ∷ [])) - 1 ≡ 0
+pub first_page : (cs : Catalog) (c : Stored) → length (all_rows (cs ++ c ∷ [])) ≤ page_room → length (pages_of (cs ++ c ∷ [])) - 1 ≡ 0
 first_page [] c few = ap (λ (pages : List Catalog). length pages - 1) (its_page c [] few)
 first_page (d ∷ cs) c few = ap (λ (pages : List Catalog). length pages - 1) (its_page d (cs ++ c ∷ []) few)
 
-some_commit : (cs : Catalog) (c : Stored) → 0 < length (cs ++ c ∷ [])
+pub some_commit : (cs : Catalog) (c : Stored) → 0 < length (cs ++ c ∷ [])
 some_commit [] c = omega arith
 some_commit (d ∷ cs) c = omega arith
 
 -- the area after the puts holds the catalog with the commit
-holds_more : (m : Area) (base : List ℕ) (cs : Catalog) (c : Stored) → IsPlain (cs ++ c ∷ []) → Holds (after_calls (commit_puts base cs c) m) base (cs ++ c ∷ [])
+pub holds_more : (m : Area) (base : List ℕ) (cs : Catalog) (c : Stored) → IsPlain (cs ++ c ∷ []) → Holds (after_calls (commit_puts base cs c) m) base (cs ++ c ∷ [])
 holds_more m base cs c plain =
     let places = place_puts base c.commit.number c.commit.stamp 0 c.commit.items c.staged in
     let whole = cs ++ c ∷ [] in

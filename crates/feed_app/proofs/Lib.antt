@@ -5,3 +5,4 @@ pub mod Founds
 pub mod Names
 pub mod Plain
 pub mod Single
+pub mod Stops

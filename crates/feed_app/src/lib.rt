@@ -19,4 +19,4 @@ pub use answer::Answer;
 pub use catalog_core::Stores;
 pub use command::run_command;
 pub use feed_base::Status;
-pub use laws::publishes_are_found;
+pub use laws::{publishes_are_found, publishes_stop_between};
