@@ -29,6 +29,7 @@ if [ ! -r "$nuspec" ] || [ ! -r "$nupkg" ]; then
   exit 2
 fi
 if [ ! -x "$feed" ]; then
+  echo "publish.sh: proving and building the program, once" >&2
   # Without words the program only says how it is used.
   (cd "$crate" && rt run >/dev/null 2>&1 </dev/null)
 fi
