@@ -17,12 +17,15 @@ use Rattle.flat_container.specs.Names.{nupkg_name, nuspec_name}
 abbrev pub keeps_all : Details → Bool
 keeps_all d = true
 
+-- the key of an entry's version
 abbrev pub key_in : Entry → List ℕ
 key_in e = key_text (version_in e)
 
+-- that key as JSON
 abbrev pub version_data : Entry → Data
 version_data e = string (key_in e)
 
+-- the list of versions
 abbrev pub index_object : List Data → Data
 index_object versions = object (member (codes "versions") (array (items_of versions)) no_members)
 
@@ -30,6 +33,7 @@ index_object versions = object (member (codes "versions") (array (items_of versi
 unfoldable pub index_text : List Entry → List ℕ
 index_text es = compact_text (index_object (map version_data es))
 
+-- the id's index
 abbrev pub index_doc : List ℕ → List Entry → Doc
 index_doc key es = record { name = index_name key; body = Made (index_text es) }
 
@@ -37,12 +41,15 @@ index_doc key es = record { name = index_name key; body = Made (index_text es) }
 abbrev pub brought : Bool → Entry → Body
 brought nuspec e = FromPublish e.details.origin_number e.details.origin_place nuspec
 
+-- the package of a version
 abbrev pub package_doc : List ℕ → Entry → Doc
 package_doc key e = record { name = nupkg_name key (key_in e); body = brought false e }
 
+-- the manifest of a version
 abbrev pub manifest_doc : List ℕ → Entry → Doc
 manifest_doc key e = record { name = nuspec_name key (key_in e); body = brought true e }
 
+-- both of them
 abbrev pub file_docs : List ℕ → Entry → List Doc
 file_docs key e = package_doc key e ∷ manifest_doc key e ∷ []
 

@@ -46,6 +46,7 @@ pub record IsMadeOf (text : List ℕ) (p : Pieces) : Type 0 where
   pub are : ArePieces p
   pub spelled : text ≡ pieces_text p
 
+-- a text of the grammar
 abbrev pub IsVersionText : List ℕ → Type 0
 IsVersionText text = (p : Pieces) × IsMadeOf text p
 

@@ -13,6 +13,7 @@ use Rattle.nuget_version.specs.Parts.{parts}
 use Rattle.nuget_version.specs.Printed.{key_text}
 use Rattle.nuget_version.specs.declared.version.Version.{Version}
 
+-- a 0 before further digits
 abbrev pub has_leading_zero : List ℕ → Bool
 has_leading_zero [] = false
 has_leading_zero (b ∷ rest) = (b == 48) && nat_lt 0 (length rest)
@@ -35,6 +36,7 @@ labels_rank labels = if length labels == 0 then 1 else 0
 abbrev pub labels_cmp : List ℕ → List ℕ → Ordering
 labels_cmp = then_cmp (on labels_rank nat_cmp) (on parts (slice_cmp part_cmp))
 
+-- the four numbers in order, and then the labels
 unfoldable pub precedence : Version → Version → Ordering
 precedence = then_cmp (on (λ (v : Version). v.major) nat_cmp) (then_cmp (on (λ (v : Version). v.minor) nat_cmp)
     (then_cmp (on (λ (v : Version). v.patch) nat_cmp) (then_cmp (on (λ (v : Version). v.revision) nat_cmp)

@@ -15,6 +15,7 @@ abbrev pub IsLongInFull : List ℕ → ℕ → Type 0
 IsLongInFull text len =
     (p : Pieces) × IsMadeOf text p × (length text ≤ 64) × (first_too_big 0 p.numbers ≡ None) × (len ≡ length (pieces_full p)) × (64 < len)
 
+-- when each refusal comes
 abbrev pub IsRefused : List ℕ → VersionErr → Type 0
 IsRefused text Empty = text ≡ []
 IsRefused text (TooLong len) = ((len ≡ length text) × (64 < len)) ⊎ IsLongInFull text len

@@ -10,9 +10,11 @@ use Rattle.nuget_version.specs.declared.walk.Place.{Place}
 use Rattle.nuget_version.specs.declared.walk.Number.{Number}
 use Rattle.nuget_version.specs.declared.walk.Found.{Found}
 
+-- where the walk stands: in which piece, and whether that has a byte
 abbrev pub place : Stage → Bool → Place
 place stage begun = record { stage = stage; begun = begun }
 
+-- whether the piece is a number
 abbrev pub is_number_stage : Stage → Bool
 is_number_stage Labels = false
 is_number_stage Meta = false
@@ -30,6 +32,7 @@ abbrev pub after_number : Stage → ℕ → Option Place
 after_number stage b =
     if b == 46 then after_dot stage else (if b == 45 then Some (place Labels false) else (if b == 43 then Some (place Meta false) else None))
 
+-- where a `+` behind a part leads
 abbrev pub after_plus : Stage → Option Place
 after_plus Labels = Some (place Meta false)
 after_plus stage = None
@@ -38,10 +41,12 @@ after_plus stage = None
 abbrev pub after_part : Stage → ℕ → Option Place
 after_part stage b = if b == 46 then Some (place stage false) else (if b == 43 then after_plus stage else None)
 
+-- where a byte in a number leads
 abbrev pub next_in_number : Stage → Bool → ℕ → Option Place
 next_in_number stage begun b =
     if is_ascii_digit b then Some (place stage true) else (if begun then after_number stage b else None)
 
+-- where a byte in a part leads
 abbrev pub next_in_part : Stage → Bool → ℕ → Option Place
 next_in_part stage begun b =
     if is_part_byte b then Some (place stage true) else (if begun then after_part stage b else None)
@@ -54,9 +59,11 @@ next_of stage begun b = if is_number_stage stage then next_in_number stage begun
 abbrev pub with_digit : Number → ℕ → Number
 with_digit n digit = record n { value = min (n.value * 10 + digit) 2147483648 }
 
+-- a number of one digit
 abbrev pub first_digit : ℕ → ℕ → Number
 first_digit at digit = record { value = digit; at = at }
 
+-- no number yet
 abbrev pub nothing_found : Found
 nothing_found =
     let zero : Number = record { value = 0; at = 0 } in
@@ -69,6 +76,7 @@ number_of Patch f = f.patch
 number_of Revision f = f.revision
 number_of stage f = f.major
 
+-- with another number in a stage's place
 abbrev pub with_number : Stage → Number → Found → Found
 with_number Major n f = record f { major = n }
 with_number Minor n f = record f { minor = n }
@@ -76,6 +84,7 @@ with_number Patch n f = record f { patch = n }
 with_number Revision n f = record f { revision = n }
 with_number stage n f = f
 
+-- with one digit more in that place
 abbrev pub with_digit_at : Stage → Bool → ℕ → ℕ → Found → Found
 with_digit_at stage begun at digit f =
     with_number stage (if begun then with_digit (number_of stage f) digit else first_digit at digit) f
@@ -111,6 +120,7 @@ abbrev pub mark_at : ℕ → List ℕ → Option ℕ
 mark_at at [] = None
 mark_at at (b ∷ rest) = Some at
 
+-- the number at a place, 0 where there is none
 abbrev pub number_found : List (List ℕ) → ℕ → Number
 number_found numbers k = slice_index_or (numbers_read numbers) k (record { value = 0; at = 0 })
 

@@ -31,6 +31,7 @@ is_part (b ∷ bs) = list_all is_word_byte (b ∷ bs)
 abbrev pub is_id : List ℕ → Bool
 is_id text = list_all is_part (parts text)
 
+-- an id, of any length
 abbrev pub IsId : List ℕ → Type 0
 IsId text = IsTrue (is_id text)
 

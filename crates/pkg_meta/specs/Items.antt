@@ -12,6 +12,7 @@ abbrev pub id_of : Item → PackageId
 id_of (the.Details d) = d.meta.id
 id_of (the.Gone i v) = i
 
+-- the version that an item is of
 abbrev pub version_of : Item → Version
 version_of (the.Details d) = d.meta.version
 version_of (the.Gone i v) = v

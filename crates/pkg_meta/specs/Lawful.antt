@@ -20,6 +20,7 @@ abbrev pub placed_from : ℕ → ℕ → ℕ → List Item → List Placed
 placed_from number stamp place [] = []
 placed_from number stamp place (it ∷ items) = record { number = number; place = place; stamp = stamp; what = it } ∷ placed_from number stamp (suc place) items
 
+-- the items of a commit, each with its place
 abbrev pub placed_of : Stored → List Placed
 placed_of c = placed_from c.commit.number c.commit.stamp 0 c.commit.items
 

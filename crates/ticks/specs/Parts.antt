@@ -5,9 +5,11 @@ use Rattle.ticks.specs.declared.reading.Parts.{Parts}
 use Rattle.ticks.specs.Reading.{Written}
 use Rattle.ticks.specs.Stamp.{Civil}
 
+-- the same date
 abbrev pub civil_of : CivilDate → Civil
 civil_of d = record { year = d.year; month = d.month; day = d.day }
 
+-- the date is the one that is written
 abbrev pub IsDatePartOf : Written → CivilDate → Type 0
 IsDatePartOf w d = (d.year ≡ w.year) × (d.month ≡ w.month) × (d.day ≡ w.day)
 

@@ -38,6 +38,7 @@ abbrev pub decimals_text : ℕ → ℕ → List ℕ
 decimals_text zero fraction = []
 decimals_text (suc n) fraction = 46 ∷ last_digits (suc n) fraction
 
+-- how UTC is written
 abbrev pub zone_text : Zone → List ℕ
 zone_text letter = codes "Z"
 zone_text digits = codes "+00:00"
@@ -52,6 +53,7 @@ pub record IsTextOf (w : Written) (text : List ℕ) : Type 0 where
   pub fits : FitsForm w
   pub spelled : text ≡ written_text w
 
+-- a text of the form
 abbrev pub IsForm : List ℕ → Type 0
 IsForm text = (w : Written) × IsTextOf w text
 
@@ -64,6 +66,7 @@ pub record IsMomentOf (w : Written) (number : ℕ) : Type 0 where
   pub second : w.second < 60
   pub counted : number ≡ (((days * 24 + w.hour) * 60 + w.minute) * 60 + w.second) * 10_000_000 + w.fraction * 10 ^ (7 - w.places)
 
+-- a text of the form that names this moment
 abbrev pub NamesMoment : List ℕ → ℕ → Type 0
 NamesMoment text number = (w : Written) × IsTextOf w text × IsMomentOf w number
 

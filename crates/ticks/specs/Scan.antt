@@ -2,6 +2,7 @@
 use Rattle.std.specs.Prelude.{◌≡◌, ◌<◌, ◌≤◌, ◌+◌, ℕ, List, [], ◌∷◌, ◌++◌, length, take, drop, codes, Bool, true, false, ◌&&◌, ◌==◌, nat_le, if◌then◌else◌, Result, Ok, Err}
 use Rattle.std.specs.Str.Parse.{AllDigits}
 
+-- whether the byte is a digit
 abbrev pub is_digit : ℕ → Bool
 is_digit b = nat_le 48 b && nat_le b 57
 
@@ -27,6 +28,7 @@ is_part_then [] test text = test text
 is_part_then (want ∷ form) test [] = test []
 is_part_then (want ∷ form) test (b ∷ bs) = if fits want b then is_part_then form test bs else test (b ∷ bs)
 
+-- whether the text has ended
 abbrev pub is_end : List ℕ → Bool
 is_end [] = true
 is_end (b ∷ bs) = false
@@ -36,12 +38,15 @@ abbrev pub zone_form : List ℕ → List ℕ
 zone_form [] = codes "Z"
 zone_form (b ∷ bs) = if b == 43 then codes "+00:00" else codes "Z"
 
+-- whether the text is a zone
 abbrev pub is_zone : List ℕ → Bool
 is_zone text = is_front_then (zone_form text) is_end text
 
+-- whether it is one to seven decimals and a zone
 abbrev pub is_decimals : List ℕ → Bool
 is_decimals text = is_front_then (codes "d") (is_part_then (codes "dddddd") is_zone) text
 
+-- whether it begins with a point
 abbrev pub starts_with_point : List ℕ → Bool
 starts_with_point [] = false
 starts_with_point (b ∷ bs) = b == 46
@@ -56,6 +61,7 @@ abbrev pub tail_places : List ℕ → ℕ
 tail_places [] = 0
 tail_places (b ∷ bs) = if b == 46 then fitting_len (codes "ddddddd") bs else 0
 
+-- whether it is a text of the form
 abbrev pub is_stamp : List ℕ → Bool
 is_stamp text = is_front_then (codes "dddd-dd-ddTdd:dd:dd") is_tail text
 

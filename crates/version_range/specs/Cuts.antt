@@ -1,12 +1,15 @@
 -- How the text of a range is cut.
 use Rattle.std.specs.Prelude.{ℕ, ◌-◌, ◌==◌, ◌||◌, List, [], ◌∷◌, Bool, true, false, if◌then◌else◌, Option, Some, None, length, take, slice_index, option_map}
 
+-- whether the byte is a space
 abbrev pub is_space : ℕ → Bool
 is_space b = b == 32
 
+-- whether it is a `*`
 abbrev pub is_star : ℕ → Bool
 is_star b = b == 42
 
+-- whether it is a comma
 abbrev pub is_comma : ℕ → Bool
 is_comma b = b == 44
 
@@ -46,6 +49,7 @@ opened (b ∷ rest) = if b == 91 then Some (true, rest) else (if b == 40 then So
 abbrev pub closed_by : ℕ → List ℕ → Option (Bool × List ℕ)
 closed_by last front = if last == 93 then Some (true, front) else (if last == 41 then Some (false, front) else None)
 
+-- the same of a text, by its last byte
 unfoldable pub closed : List ℕ → Option (Bool × List ℕ)
 closed text = closed_by (slice_index text (length text - 1)) (take (length text - 1) text)
 
@@ -53,6 +57,7 @@ closed text = closed_by (slice_index text (length text - 1)) (take (length text 
 abbrev pub in_front : ℕ → List ℕ × List ℕ → List ℕ × List ℕ
 in_front b cut = (b ∷ cut.0, cut.1)
 
+-- a text cut at its first comma
 abbrev pub parted : List ℕ → Option (List ℕ × List ℕ)
 parted [] = None
 parted (b ∷ rest) = if is_comma b then Some ([], rest) else option_map (in_front b) (parted rest)

@@ -23,6 +23,7 @@ pub data Form : Type 0 where
   -- two pieces and a comma in brackets, each of which is square or isn't
   double : Bool → Piece → Piece → Bool → Form
 
+-- a piece with its place
 abbrev pub piece_at : ℕ → List ℕ → Piece
 piece_at at text = record { text = text; at = at }
 
@@ -56,6 +57,7 @@ abbrev pub opened_form : ℕ → List ℕ → Option (Bool × List ℕ) → Form
 opened_form at core None = bare (piece_at at core)
 opened_form at core (Some (low_in, rest)) = closed_form at core low_in (closed rest)
 
+-- the form of a text without spaces at its ends
 abbrev pub core_form : ℕ → List ℕ → Form
 core_form at [] = blank
 core_form at (b ∷ rest) = opened_form at (b ∷ rest) (opened (b ∷ rest))
@@ -65,5 +67,6 @@ abbrev pub form_unless : Option ℕ → List ℕ → Form
 form_unless (Some at) text = starred at
 form_unless None text = core_form (lead text) (trimmed text)
 
+-- the form of every text
 unfoldable pub form : List ℕ → Form
 form text = form_unless (position_from is_star 0 text) text

@@ -33,6 +33,7 @@ SpellsEnd text (Some v) = SpellsVersion text v
 abbrev pub opening : Bool → ℕ
 opening square = if square then 91 else 40
 
+-- the closing bracket
 abbrev pub closing : Bool → ℕ
 closing square = if square then 93 else 41
 

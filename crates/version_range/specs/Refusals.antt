@@ -15,6 +15,7 @@ abbrev pub IsEnd : List ℕ → Option Version → Type 0
 IsEnd text None = text ≡ []
 IsEnd text (Some v) = Spells text v
 
+-- the text of no version
 abbrev pub IsNoVersion : List ℕ → Type 0
 IsNoVersion text = (v : Version) → ¬ Spells text v
 
@@ -49,11 +50,13 @@ AreBadEnds low_in left right high_in Inverted =
     × IsFalse (are_ordered low (low_in && is_some low) high (high_in && is_some high))
 AreBadEnds low_in left right high_in e = ⊥
 
+-- the refusal of a `*` at this place
 abbrev pub IsStarredAt : ℕ → RangeErr → Type 0
 IsStarredAt place Memory = ⊤
 IsStarredAt place (Floating at) = at ≡ place
 IsStarredAt place e = ⊥
 
+-- the refusal of a byte at this place
 abbrev pub IsBrokenAt : ℕ → RangeErr → Type 0
 IsBrokenAt place Memory = ⊤
 IsBrokenAt place (BadByte at) = at ≡ place
