@@ -1,16 +1,20 @@
 -- Each put of a commit is a file that a publish brought, or a document of the catalog with the commit.
-use Rattle.std.proofs.Common.{◌≡◌, ◌<◌, ◌≤◌, ◌+◌, ◌^◌, ◌⊎◌, inl, inr, ℕ, suc, List, [], ◌∷◌, ◌++◌, length, All, Option, Some, None, refl, subst, arith, length-append}
-use Rattle.std.specs.Prelude.{slice_get}
+use Rattle.std.proofs.Common.{◌≡◌, ◌<◌, ◌≤◌, ◌+◌, ◌-◌, ◌∙◌, ◌^◌, ◌⊎◌, inl, inr, ℕ, suc, List, [], ◌∷◌, ◌++◌, length, All, Option, Some, None, refl, subst, arith, length-append}
+use Rattle.std.specs.Prelude.{flat_map, slice_get}
 use Rattle.std.proofs.lemmas.List.Elements.{All-append, All-cons}
 use Rattle.blob_store.specs.declared.call.Call.{Call}
 use Rattle.blob_store.specs.declared.call.Call.TheVariants.{Put}
 use Rattle.pkg_meta.specs.Catalog.{Catalog, Staged, Stored}
 use Rattle.pkg_meta.specs.declared.item.Item.{Item}
+use Rattle.catalog_doc.specs.CatDocs.{all_rows, last_page, leaves_of, look_up, page_docs, pages_of}
 use Rattle.catalog_core.specs.Commits.{index_put, page_put, place_puts, staged_puts}
-use Rattle.catalog_core.specs.Documents.{leaf_text}
-use Rattle.catalog_core.specs.Laws.{ArePutsOfDocuments, HasOwnNumber, PutsDocument, PutsStaged}
-use Rattle.catalog_core.specs.Names.{leaf_name, nupkg_name, nuspec_name}
-use Rattle.catalog_core.proofs.NewDocs.{leaf_is, page_put-document}
+use Rattle.catalog_doc.specs.Documents.{leaf_text, page_text}
+use Rattle.catalog_doc.specs.Laws.{HasOwnNumber}
+use Rattle.catalog_core.specs.Laws.{ArePutsOfDocuments, PutsDocument, PutsStaged}
+use Rattle.catalog_doc.specs.Names.{leaf_name, nupkg_name, nuspec_name, page_name}
+use Rattle.catalog_doc.proofs.DocNames.{page_name-not_index}
+use Rattle.catalog_doc.proofs.LookUps.{past_index}
+use Rattle.catalog_doc.proofs.NewDocs.{few_pages, found_first, last_has, leaf_is, some_page}
 
 module _ (P : Call → Type 0) (base : List ℕ) (number stamp : ℕ)
     (staged_file : (call : Call) → PutsStaged number call → P call) where
@@ -39,6 +43,17 @@ module _ (P : Call → Type 0) (base : List ℕ) (number stamp : ℕ)
       (All-cons P (Put (leaf_name number from) (leaf_text base number from stamp it)) (place_puts base number stamp (suc from) items staged)
       (leaves 0 from it (omega arith) refl)
       (places_are (suc from) items staged (λ k place x is at. leaves (suc k) place x (omega arith) at)))
+
+-- what the last page's put writes
+pub page_put-document : (base : List ℕ) (cs : Catalog) → 0 < length cs → length cs < 2 ^ 64 → PutsDocument base cs (page_put base cs)
+page_put-document base cs filled few =
+    let some : 0 < length (pages_of cs) = some_page cs filled in
+    let bound : length (pages_of cs) ≤ 0 + length cs = (few_pages [] cs).0 in
+    past_index base (page_name (length (pages_of cs) - 1)) cs (page_name-not_index (length (pages_of cs) - 1))
+    ∙ found_first (look_up (page_name (length (pages_of cs) - 1)) (page_docs base 0 (pages_of cs)))
+    (look_up (page_name (length (pages_of cs) - 1)) (flat_map (leaves_of base) cs))
+    (page_text base (length (pages_of cs) - 1) (all_rows (last_page (pages_of cs))))
+    (last_has base 0 (pages_of cs) (length (pages_of cs) - 1) some (omega arith) (omega arith))
 
 pub puts_are : (base : List ℕ) (cs : Catalog) (c : Stored) → length cs + 1 < 2 ^ 64 → HasOwnNumber cs c → length c.commit.items ≤ 2 ^ 64 → ArePutsOfDocuments base cs c
 puts_are base cs c few own items =

@@ -2,19 +2,19 @@
 use Rattle.std.proofs.Common.{◌≡◌, ℕ, List, Option, Some, IfSome, IsSome, IsUtf8, sym, ap, subst, ◌∙◌}
 use Rattle.std.specs.FinMap.{get}
 use Rattle.blob_store.specs.Area.{Area}
-use Rattle.catalog_core.specs.Documents.{index_text}
-use Rattle.catalog_core.specs.Names.{index_name, page_name}
+use Rattle.catalog_doc.specs.Documents.{index_text}
+use Rattle.catalog_doc.specs.Names.{index_name, page_name}
 use Rattle.catalog_core.specs.Plain.{ArePlainRows}
-use Rattle.catalog_core.specs.Reading.{HoldsRows, one_head, one_page}
-use Rattle.catalog_core.specs.declared.row.Row.{Row}
-use Rattle.feed_base.proofs.Options.{weaker}
+use Rattle.catalog_doc.specs.Reading.{one_head, one_page}
+use Rattle.catalog_doc.specs.declared.row.Row.{Row}
+use Rattle.feed_base.proofs.Options.{both_of, weaker}
 use Rattle.pkg_meta.specs.Catalog.{Catalog}
-use Rattle.catalog_core.specs.CatDocs.{all_rows}
-use Rattle.catalog_core.specs.Opened.{Holds, HoldsPlain, IsFound}
+use Rattle.catalog_doc.specs.CatDocs.{all_rows}
+use Rattle.catalog_core.specs.Opened.{Holds, HoldsPlain, HoldsRows, IsFound}
 use Rattle.catalog_core.specs.Verdicts.{HaveDistinctPairs}
 use Rattle.catalog_core.proofs.Plains.{holds_plain, none_found, plain_of_rows, published_twice}
-use Rattle.catalog_core.proofs.OnePage.{from_some}
-use Rattle.catalog_core.proofs.Openings.{both_of, Found, is_held}
+use Rattle.catalog_doc.proofs.OnePage.{from_some}
+use Rattle.catalog_core.proofs.Openings.{Found, is_held}
 
 pub rows_held : (held : Option Area) (index page : Option (List ℕ)) (bytes base : List ℕ) (rows : List Row) → index ≡ Some bytes
     → bytes ≡ index_text base (one_head rows) → page ≡ one_page base rows

@@ -11,13 +11,13 @@ use Rattle.pkg_meta.specs.Items.{id_of, version_of, is_gone}
 use Rattle.pkg_meta.specs.Lawful.{all_placed, has_pair, IsFree, IsLawful, IsNext, last_of, MayFollow, newest, or_earlier, Placed, placed_from, placed_of}
 use Rattle.pkg_meta.specs.declared.item.Item.{Item}
 use Rattle.nuget_version.specs.Printed.{key_text}
-use Rattle.catalog_core.specs.CatDocs.{all_rows, page_room, rows_from, rows_of}
+use Rattle.catalog_doc.specs.CatDocs.{all_rows, page_room, rows_from, rows_of}
 use Rattle.catalog_core.specs.Commits.{made}
 use Rattle.catalog_core.specs.Verdicts.{answer_for, AreSingle, crowded, ended, first_standing, IsSimple, last_row, refusal, standing, verdict}
 use Rattle.catalog_core.specs.declared.change.Change.{Change}
 use Rattle.catalog_core.specs.declared.change.Change.TheVariants.{Publish}
 use Rattle.catalog_core.specs.declared.error.CommitErr.{CommitErr}
-use Rattle.catalog_core.specs.declared.row.Row.{Row}
+use Rattle.catalog_doc.specs.declared.row.Row.{Row}
 use Rattle.catalog_core.proofs.Simple.{rows_single}
 
 -- the row of an item

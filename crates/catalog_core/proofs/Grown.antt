@@ -8,12 +8,12 @@ use Rattle.nuget_version.specs.Printed.{key_text}
 use Rattle.pkg_meta.specs.Catalog.{Catalog, Stored}
 use Rattle.pkg_meta.specs.Lawful.{newest}
 use Rattle.pkg_meta.specs.declared.meta.Meta.{Meta}
-use Rattle.catalog_core.specs.CatDocs.{all_rows, rows_of}
+use Rattle.catalog_doc.specs.CatDocs.{all_rows, rows_of}
 use Rattle.catalog_core.specs.Commits.{made}
 use Rattle.catalog_core.specs.Plain.{ArePlainFrom, ArePlainRowsFrom, IsBareMeta, IsPlain, IsPlainCommit}
 use Rattle.catalog_core.specs.Verdicts.{AreNew, AreSingle, HaveDistinctPairs, is_row_of, IsSimple, last_row, standing, verdict}
 use Rattle.catalog_core.specs.declared.change.Change.TheVariants.{Publish}
-use Rattle.catalog_core.specs.declared.row.Row.{Row}
+use Rattle.catalog_doc.specs.declared.row.Row.{Row}
 use Rattle.catalog_core.proofs.Follows.{both_none, gone_only, is_taken}
 use Rattle.catalog_core.proofs.Plains.{length-plain_rows, rows_of_plain}
 

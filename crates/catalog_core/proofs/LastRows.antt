@@ -19,7 +19,7 @@ use Rattle.blob_store.proofs.Areas.{bytes_eq-turned}
 use Rattle.catalog_core.specs.Heads.{HasHeads, head_by, is_named, last_named, pair_text}
 use Rattle.catalog_core.specs.Verdicts.{AreNew, HaveDistinctPairs, is_row_of, last_by, last_row}
 use Rattle.catalog_core.specs.declared.heads.Head.{Head}
-use Rattle.catalog_core.specs.declared.row.Row.{Row}
+use Rattle.catalog_doc.specs.declared.row.Row.{Row}
 
 newer : (first second : Bool) (row x : Row) (earlier : Option Row)
     → option_or (if second then Some row else earlier) (if first then Some x else None) ≡ (if second then Some row else option_or earlier (if first then Some x else None))

@@ -5,19 +5,20 @@ use Rattle.blob_store.specs.Area.{Area}
 use Rattle.nuget_version.specs.Printed.{normal_text}
 use Rattle.pkg_meta.specs.Catalog.{Catalog, Stored}
 use Rattle.pkg_meta.specs.declared.meta.Meta.{Meta}
-use Rattle.catalog_core.specs.CatDocs.{all_rows, doc_at, heads_of, page_room, rows_of}
-use Rattle.catalog_core.specs.Documents.{head_of, index_text, last_number, last_stamp, page_text}
-use Rattle.catalog_core.specs.Names.{index_name, page_name}
-use Rattle.catalog_core.specs.Opened.{Holds}
+use Rattle.catalog_doc.specs.CatDocs.{all_rows, doc_at, heads_of, page_room, rows_of}
+use Rattle.catalog_doc.specs.Documents.{head_of, index_text, last_number, last_stamp, page_text}
+use Rattle.catalog_doc.specs.Names.{index_name, page_name}
+use Rattle.catalog_core.specs.Commits.{commit_at}
+use Rattle.catalog_core.specs.Opened.{Holds, HoldsRows}
 use Rattle.catalog_core.specs.Verdicts.{HaveDistinctPairs}
-use Rattle.catalog_core.specs.Plain.{ArePlainFrom, ArePlainRows, ArePlainRowsFrom, commit_of, IsPlain, IsPlainCommit, IsPlainRow}
-use Rattle.catalog_core.specs.Reading.{AreHeadValues, AreRowValues, HoldsRows, one_head, one_page}
+use Rattle.catalog_core.specs.Plain.{ArePlainFrom, ArePlainRows, ArePlainRowsFrom, IsPlain, IsPlainCommit, IsPlainRow}
+use Rattle.catalog_doc.specs.Reading.{AreHeadValues, AreRowValues, one_head, one_page}
 use Rattle.catalog_core.specs.declared.change.Change.TheVariants.{Publish}
-use Rattle.catalog_core.specs.declared.head.PageHead.{PageHead}
-use Rattle.catalog_core.specs.declared.row.Row.{Row}
-use Rattle.catalog_core.proofs.OnePage.{first_page_is, from_some, index_text-tells, its_page, no_first_page, none_some}
-use Rattle.catalog_core.proofs.Texts.{counts_fit}
-use Rattle.catalog_core.proofs.RowData.{page_text-tells, RowsFit}
+use Rattle.catalog_doc.specs.declared.head.PageHead.{PageHead}
+use Rattle.catalog_doc.specs.declared.row.Row.{Row}
+use Rattle.catalog_doc.proofs.OnePage.{first_page_is, from_some, index_text-tells, its_page, no_first_page, none_some}
+use Rattle.catalog_doc.proofs.Texts.{counts_fit}
+use Rattle.catalog_doc.proofs.RowData.{page_text-tells, RowsFit}
 
 -- the row of a publish
 abbrev row_of : ℕ → ℕ → Meta → Row
@@ -49,7 +50,7 @@ abbrev meta_of : Row → Meta
 meta_of row = record { id = row.id; version = row.version; verbatim = normal_text row.version }
 
 abbrev commit_of_row : Row → Stored
-commit_of_row row = commit_of row.number row.stamp (Publish (meta_of row) [] [] ∷ [])
+commit_of_row row = commit_at row.number row.stamp (Publish (meta_of row) [] [] ∷ [])
 
 abbrev catalog_of : List Row → Catalog
 catalog_of rows = map commit_of_row rows
@@ -73,7 +74,7 @@ plain_from n last (row ∷ rows) p = (
     bare = record { version = p.0.version; verbatim = refl };
     later = p.0.later;
     moment = p.0.moment;
-    made = ap (λ (number : ℕ). commit_of number row.stamp (Publish (meta_of row) [] [] ∷ [])) p.0.number;
+    made = ap (λ (number : ℕ). commit_at number row.stamp (Publish (meta_of row) [] [] ∷ [])) p.0.number;
   },
   plain_from (suc n) row.stamp rows p.1,
 )
@@ -168,6 +169,10 @@ same_page base other (x ∷ xs) [] px py e = absurd (none_some (page_text base 0
 same_page base other (x ∷ xs) (y ∷ ys) px py e =
     (page_text-tells base other 0 (x ∷ xs) (y ∷ ys) (values_fit (x ∷ xs) (row_values (x ∷ xs) px)) (values_fit (y ∷ ys) (row_values (y ∷ ys) py))
     (omega (arith, px.few)) (omega (arith, py.few)) (from_some (page_text base 0 (x ∷ xs)) (page_text other 0 (y ∷ ys)) e)).1
+
+-- the first pages of plain catalogs tell their rows
+pub page_tells : (base : List ℕ) (cs ds : Catalog) → IsPlain cs → IsPlain ds → doc_at base cs (page_name 0) ≡ doc_at base ds (page_name 0) → all_rows cs ≡ all_rows ds
+page_tells base cs ds pc pd e = same_page base base (all_rows cs) (all_rows ds) (rows_of_plain cs pc) (rows_of_plain ds pd) (sym (page_at base cs pc) ∙ e ∙ page_at base ds pd)
 
 -- an area holds the rows of one plain catalog at the most
 pub same_rows_held : (m : Area) (base other : List ℕ) (xs ys : List Row) → ArePlainRows xs → ArePlainRows ys → HoldsRows m base xs → HoldsRows m other ys → xs ≡ ys

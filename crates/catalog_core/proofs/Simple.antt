@@ -7,15 +7,15 @@ use Rattle.blob_store.specs.declared.call.Call.TheVariants.{Put}
 use Rattle.pkg_meta.specs.Catalog.{Catalog, Stored}
 use Rattle.pkg_meta.specs.Lawful.{newest}
 use Rattle.pkg_meta.specs.declared.item.Item.{Item}
-use Rattle.catalog_core.specs.CatDocs.{all_rows, page_room, pages_of, rows_from, rows_of}
-use Rattle.catalog_core.specs.Commits.{commit_at, commit_puts, last_page, made, one_page_puts, place_puts}
-use Rattle.catalog_core.specs.Documents.{head_of, index_text, last_stamp, page_text}
-use Rattle.catalog_core.specs.Names.{index_name, page_name}
+use Rattle.catalog_doc.specs.CatDocs.{all_rows, last_page, page_room, pages_of, rows_from, rows_of}
+use Rattle.catalog_core.specs.Commits.{commit_at, commit_puts, made, one_page_puts, place_puts}
+use Rattle.catalog_doc.specs.Documents.{head_of, index_text, last_stamp, page_text}
+use Rattle.catalog_doc.specs.Names.{index_name, page_name}
 use Rattle.catalog_core.specs.Verdicts.{answer_for, AreSingle, IsSimple, refusal, verdict}
 use Rattle.catalog_core.specs.declared.change.Change.{Change}
 use Rattle.catalog_core.specs.declared.error.CommitErr.{CommitErr}
-use Rattle.catalog_core.specs.declared.row.Row.{Row}
-use Rattle.catalog_core.proofs.OnePage.{its_page, length-rows_from}
+use Rattle.catalog_doc.specs.declared.row.Row.{Row}
+use Rattle.catalog_doc.proofs.OnePage.{its_page, length-rows_from}
 
 -- one row a commit
 pub rows_single : (number : ℕ) (cs : Catalog) → AreSingle number cs → length (all_rows cs) ≡ length cs

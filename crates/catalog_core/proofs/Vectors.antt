@@ -14,8 +14,8 @@ use Rattle.ticks.proofs.Vectors.{stamp_text-first, stamp_text-of_2024}
 use Rattle.pkg_meta.specs.Items.{published}
 use Rattle.pkg_meta.specs.declared.item.Item.TheVariants.{Details}
 use Rattle.pkg_meta.specs.declared.meta.Meta.{Meta}
-use Rattle.catalog_core.specs.Documents.{commit_id, head_of, index_text, leaf_text, page_text}
-use Rattle.catalog_core.specs.declared.row.Row.{Row}
+use Rattle.catalog_doc.specs.Documents.{commit_id, head_of, index_text, leaf_text, page_text}
+use Rattle.catalog_doc.specs.declared.row.Row.{Row}
 use Rattle.catalog_core.specs.Hash.{hash_text}
 use Rattle.catalog_core.specs.Laws.{empty_index, first_base, first_index, first_leaf, first_page, IsFoo}
 

@@ -7,18 +7,19 @@ use Rattle.pkg_meta.specs.Items.{published}
 pub use Rattle.pkg_meta.specs.Lawful.{newest}
 use Rattle.pkg_meta.specs.declared.item.Item.{Item}
 use Rattle.pkg_meta.specs.declared.item.Item.TheVariants as the
-use Rattle.catalog_core.specs.CatDocs.{all_rows, heads_of, pages_of, rows_of}
-use Rattle.catalog_core.specs.Documents.{head_of, index_text, leaf_text, page_text}
+use Rattle.catalog_doc.specs.CatDocs.{all_rows, heads_of, last_page, pages_of, rows_of}
+use Rattle.catalog_doc.specs.Documents.{head_of, index_text, leaf_text, page_text}
 use Rattle.catalog_core.specs.Hash.{hash_text}
-use Rattle.catalog_core.specs.Names.{index_name, leaf_name, nupkg_name, nuspec_name, page_name}
+use Rattle.catalog_doc.specs.Names.{index_name, leaf_name, nupkg_name, nuspec_name, page_name}
 use Rattle.catalog_core.specs.declared.change.Change.{Change}
 use Rattle.catalog_core.specs.declared.change.Change.TheVariants.{Publish}
-use Rattle.catalog_core.specs.declared.row.Row.{Row}
+use Rattle.catalog_doc.specs.declared.row.Row.{Row}
 
 -- the item that a change makes at a place
 abbrev pub item_of : ℕ → ℕ → ℕ → Change → Item
 item_of number stamp place (Publish meta nuspec nupkg) = the.Details (published meta number place stamp (length nupkg) (hash_text nupkg))
 
+-- the items that changes make at these places on
 abbrev pub items_from : ℕ → ℕ → ℕ → List Change → List Item
 items_from number stamp place [] = []
 items_from number stamp place (change ∷ changes) = item_of number stamp place change ∷ items_from number stamp (suc place) changes
@@ -52,15 +53,11 @@ place_puts base number stamp place (it ∷ items) [] =
 place_puts base number stamp place (it ∷ items) (s ∷ staged) =
     staged_puts number place s ++ Put (leaf_name number place) (leaf_text base number place stamp it) ∷ place_puts base number stamp (suc place) items staged
 
-abbrev pub last_page : List Catalog → Catalog
-last_page [] = []
-last_page (page ∷ []) = page
-last_page (page ∷ next ∷ pages) = last_page (next ∷ pages)
-
 -- the put of the catalog's last page
 abbrev pub page_put : List ℕ → Catalog → Call
 page_put base cs = Put (page_name (length (pages_of cs) - 1)) (page_text base (length (pages_of cs) - 1) (all_rows (last_page (pages_of cs))))
 
+-- the put of the index that a catalog has
 abbrev pub index_put : List ℕ → Catalog → Call
 index_put base cs = Put index_name (index_text base (heads_of cs))
 

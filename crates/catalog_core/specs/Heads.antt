@@ -5,12 +5,13 @@ use Rattle.std.specs.Str.{bytes_eq}
 use Rattle.nuget_version.specs.Printed.{key_text}
 use Rattle.catalog_core.specs.Verdicts.{last_by}
 use Rattle.catalog_core.specs.declared.heads.Head.{Head}
-use Rattle.catalog_core.specs.declared.row.Row.{Row}
+use Rattle.catalog_doc.specs.declared.row.Row.{Row}
 
 -- the id's key and the version's key in one text
 abbrev pub pair_text : List ℕ → List ℕ → List ℕ
 pair_text id version = id ++ (codes "/" ++ version)
 
+-- the row is of the version with this name
 abbrev pub is_named : List ℕ → Row → Bool
 is_named name row = bytes_eq (pair_text row.id.key (key_text row.version)) name
 

@@ -1,13 +1,11 @@
-pub mod CatDocs
 pub mod Commits
-pub mod Documents
 pub mod Errors
 pub mod Hash
 pub mod Heads
 pub mod Laws
-pub mod Members
-pub mod Names
+pub mod Leaves
 pub mod Opened
 pub mod Plain
-pub mod Reading
+pub mod Reads
 pub mod Verdicts
+pub mod Whole

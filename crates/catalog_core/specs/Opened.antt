@@ -1,13 +1,15 @@
 -- What an open catalog is, and which areas it opens.
-use Rattle.std.specs.Prelude.{◌≡◌, ℕ, List, Option, IfSome}
+use Rattle.std.specs.Prelude.{◌≡◌, ℕ, List, Option, Some, IfSome}
 use Rattle.std.specs.FinMap.{get}
 use Rattle.std.specs.Str.{IsUtf8}
 use Rattle.blob_store.specs.Area.{Area}
 use Rattle.pkg_meta.specs.Catalog.{Catalog}
-use Rattle.catalog_core.specs.CatDocs.{all_rows, doc_at}
-use Rattle.catalog_core.specs.Names.{index_name, page_name}
+use Rattle.catalog_doc.specs.CatDocs.{all_rows, doc_at}
+use Rattle.catalog_doc.specs.Documents.{index_text}
+use Rattle.catalog_doc.specs.Names.{index_name, page_name}
 use Rattle.catalog_core.specs.Plain.{IsPlain}
-use Rattle.catalog_core.specs.declared.row.Row.{Row}
+use Rattle.catalog_doc.specs.Reading.{one_head, one_page}
+use Rattle.catalog_doc.specs.declared.row.Row.{Row}
 
 -- an open catalog: its area, the feed's base address, and the rows of its items in order
 pub record Opened (B : Type 0) : Type 0 where
@@ -30,3 +32,8 @@ IsFound held base cs = IsUtf8 base × IsPlain cs × IfSome held (λ m. Holds m b
 -- an open catalog's base address and rows are those of such a catalog
 abbrev pub IsOpened : Option Area → List ℕ → List Row → Type 0
 IsOpened held base rows = (cs : Catalog) × IsFound held base cs × (all_rows cs ≡ rows)
+
+-- the area's index and first page are those of these rows
+pub record HoldsRows (m : Area) (base : List ℕ) (rows : List Row) : Type 0 where
+  pub index : get m index_name ≡ Some (index_text base (one_head rows))
+  pub page : get m (page_name 0) ≡ one_page base rows

@@ -1,15 +1,14 @@
 -- Catalogs of one bare publish a commit, and their rows.
-use Rattle.std.specs.Prelude.{◌≡◌, ◌<◌, ◌≤◌, false, ℕ, suc, List, [], ◌∷◌, length, map, ⊤}
+use Rattle.std.specs.Prelude.{◌≡◌, ◌<◌, ◌≤◌, false, ℕ, suc, List, [], ◌∷◌, length, ⊤}
 use Rattle.nuget_version.specs.Printed.{normal_text}
 use Rattle.nuget_version.specs.declared.version.Version.{Version}
 use Rattle.pkg_meta.specs.Catalog.{Catalog, Stored}
 use Rattle.pkg_meta.specs.declared.meta.Meta.{Meta}
-use Rattle.catalog_core.specs.CatDocs.{all_rows, page_room}
-use Rattle.catalog_core.specs.Commits.{items_from, staged_of}
+use Rattle.catalog_doc.specs.CatDocs.{all_rows, page_room}
+use Rattle.catalog_core.specs.Commits.{commit_at}
 use Rattle.catalog_core.specs.Verdicts.{HaveDistinctPairs}
-use Rattle.catalog_core.specs.declared.change.Change.{Change}
 use Rattle.catalog_core.specs.declared.change.Change.TheVariants.{Publish}
-use Rattle.catalog_core.specs.declared.row.Row.{Row}
+use Rattle.catalog_doc.specs.declared.row.Row.{Row}
 
 -- a version of three numbers alone
 pub record IsBareVersion (v : Version) : Type 0 where
@@ -22,13 +21,6 @@ pub record IsBareMeta (meta : Meta) : Type 0 where
   pub version : IsBareVersion meta.version
   pub verbatim : meta.verbatim ≡ normal_text meta.version
 
--- the commit of this number and stamp that changes make
-abbrev pub commit_of : ℕ → ℕ → List Change → Stored
-commit_of number stamp changes = record {
-  commit = record { number = number; stamp = stamp; items = items_from number stamp 0 changes };
-  staged = map staged_of changes;
-}
-
 -- a commit of this number, behind one of this stamp, of one bare publish
 pub record IsPlainCommit (n last : ℕ) (c : Stored) : Type 0 where
   pub meta : Meta
@@ -37,7 +29,7 @@ pub record IsPlainCommit (n last : ℕ) (c : Stored) : Type 0 where
   pub bare : IsBareMeta meta
   pub later : last < c.commit.stamp
   pub moment : c.commit.stamp ≤ 3_155_378_975_999_999_999
-  pub made : c ≡ commit_of n c.commit.stamp (Publish meta nuspec nupkg ∷ [])
+  pub made : c ≡ commit_at n c.commit.stamp (Publish meta nuspec nupkg ∷ [])
 
 -- commits from this number on, behind one of this stamp
 abbrev pub ArePlainFrom : ℕ → ℕ → Catalog → Type 0
@@ -59,6 +51,7 @@ pub record IsPlainRow (n last : ℕ) (row : Row) : Type 0 where
   pub later : last < row.stamp
   pub moment : row.stamp ≤ 3_155_378_975_999_999_999
 
+-- rows of commits from this number on, behind one of this stamp
 abbrev pub ArePlainRowsFrom : ℕ → ℕ → List Row → Type 0
 ArePlainRowsFrom n last [] = ⊤
 ArePlainRowsFrom n last (row ∷ rows) = IsPlainRow n last row × ArePlainRowsFrom (suc n) row.stamp rows

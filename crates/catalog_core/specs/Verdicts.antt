@@ -6,13 +6,13 @@ use Rattle.std.specs.declared.result.Result.TheVariants.{Ok, Err}
 use Rattle.nuget_version.specs.Printed.{key_text}
 use Rattle.pkg_meta.specs.Catalog.{Catalog, Stored}
 use Rattle.pkg_meta.specs.Lawful.{newest}
-use Rattle.catalog_core.specs.CatDocs.{all_rows, page_room}
+use Rattle.catalog_doc.specs.CatDocs.{all_rows, page_room}
 use Rattle.catalog_core.specs.Commits.{made}
 use Rattle.catalog_core.specs.declared.change.Change.{Change}
 use Rattle.catalog_core.specs.declared.change.Change.TheVariants.{Publish}
 use Rattle.catalog_core.specs.declared.error.CommitErr.{CommitErr}
 use Rattle.catalog_core.specs.declared.error.CommitErr.TheVariants.{Exists, Unsupported, ClockEnd, Fault, Memory}
-use Rattle.catalog_core.specs.declared.row.Row.{Row}
+use Rattle.catalog_doc.specs.declared.row.Row.{Row}
 
 -- the last row that passes a test
 abbrev pub last_by : (Row → Bool) → List Row → Option Row
@@ -59,6 +59,7 @@ ended last = if nat_le (last + 1) 3_155_378_975_999_999_999 then None else Some 
 abbrev pub refusal : List Row → ℕ → List Change → Option CommitErr
 refusal rows last changes = option_or (first_standing rows 0 changes) (option_or (crowded rows changes) (ended last))
 
+-- the commit, unless there is a reason to refuse it
 abbrev pub answer_for : Stored → Option CommitErr → Result Stored CommitErr
 answer_for c None = Ok c
 answer_for c (Some e) = Err e

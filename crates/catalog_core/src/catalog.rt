@@ -1,27 +1,28 @@
 // The catalog of a feed, open.
-ghost use Rattle.std.specs.Prelude.{◌≡◌, ◌≤◌, ◌⊎◌, [], ◌∷◌, ◌++◌, Some, None, length, IfOk, OnOk, IfErr, IfSome, IsErrOf, IsSome, IsUtf8, option_map};
+ghost use Rattle.std.specs.Prelude.{◌≡◌, ◌≤◌, ◌⊎◌, [], ◌∷◌, ◌++◌, Some, None, length, IfOk, OnOk, IfErr, IfSome, IfNone, IsErrOf, IsSome, option_map};
 ghost use Rattle.std.specs.FinMap.{get};
 ghost use Rattle.feed_base.specs.Counts.{HasRisen};
 ghost use Rattle.blob_store.specs.Area.{Area, with_blob};
 ghost use Rattle.blob_store.specs.Moments.{LeavesOnly};
 ghost use Rattle.blob_store.specs.Runs.{after_calls, IsAfterSome};
-ghost use Rattle.catalog_core.specs.CatDocs.{all_rows};
+ghost use Rattle.catalog_doc.specs.CatDocs.{all_rows};
 ghost use Rattle.catalog_core.specs.Commits.{commit_puts, made};
-ghost use Rattle.catalog_core.specs.Documents.{index_text};
-ghost use Rattle.catalog_core.specs.Names.{index_name};
+ghost use Rattle.catalog_doc.specs.Documents.{index_text};
+ghost use Rattle.catalog_doc.specs.Names.{index_name};
 ghost use Rattle.catalog_core.specs.Opened.{HoldsPlain, IsOpened};
 ghost use Rattle.catalog_core.specs.Verdicts.{ForCatalogsOf, IsRefusal, verdict};
 
 use crate::change::{Changes, Committed};
 use crate::committing::plan;
-use crate::error::{CommitErr, InitErr, OpenErr};
+use crate::documents::{bytes_at, document_at};
+use crate::error::{CommitErr, InitErr, OpenErr, ReadErr};
 use crate::heads::Rows;
-use crate::index::index_bytes;
-use crate::names::INDEX_NAME;
+use crate::items::{commits_at, leaf_at};
 use crate::opening::{Known, look};
 use crate::prepared::Prepared;
 use blob_store::{Blobs, call_all};
-use pkg_meta::{Text, Ticks};
+use catalog_doc::{INDEX_NAME, index_bytes, staged_name};
+use pkg_meta::{Bytes, Commit, Item, Many, Text, Ticks};
 use std::alloc::Global;
 use std::marker::Model;
 
@@ -99,6 +100,16 @@ pub fn open_catalog<B: Blobs>(alloc: Global, area: B) -> Result<Catalog<B>, (Ope
 }
 
 impl<B: Blobs> Catalog<B> {
+    ghost use Rattle.catalog_doc.specs.CatDocs.{doc_at};
+    ghost use Rattle.catalog_core.specs.Leaves.{AreCommitsAt, commits_of, HasNoLeaf, HaveValues, HoldsLeaf, HoldsLeaves, IsItemOf, IsItemValue};
+    ghost use Rattle.catalog_doc.specs.Names.{leaf_name, staged_name};
+    ghost use Rattle.catalog_core.specs.Reads.{IfDamaged, IsRead};
+    ghost use Rattle.catalog_doc.specs.declared.row.Row.{Row};
+    ghost use Rattle.std.specs.List.{Contains};
+    ghost use Rattle.std.specs.Prelude.{slice_get};
+    ghost use Rattle.pkg_meta.specs.Catalog.{Stored};
+    ghost use Rattle.pkg_meta.specs.declared.item.Item.{Item};
+
     pub fn base(&self) -> &str
         ensures { result.now ≡ self.now.base }
     {
@@ -111,6 +122,103 @@ impl<B: Blobs> Catalog<B> {
     {
         let Catalog { area, .. } = self;
         area
+    }
+
+    /// The number of commits.
+    pub fn count(&self) -> u32
+        ensures { ForCatalogsOf self.now.rows (λ cs. result ≡ length cs) }
+    {
+        self.rows.len().min(u32::MAX as usize) as u32
+    }
+
+    /// The bytes of the catalog's document of this name, or `None` where the catalog has no such document.
+    /// `Damaged` tells the name where the area doesn't hold it.
+    pub fn doc(&mut self, alloc: Global, name: &str) -> Result<Option<Bytes>, ReadErr>
+        ensures none { IfOk result (λ found. IfNone found (ForCatalogsOf self.old.rows (λ cs. doc_at self.old.base cs name.now ≡ None))) }
+        ensures some { IfOk result (λ found. IfSome found (λ bytes. ForCatalogsOf self.old.rows (λ cs. IsSome (doc_at self.old.base cs name.now))
+            × IfSome (B.held self.old.area) (λ m. get m name.now ≡ Some bytes))) }
+        ensures damaged { IfErr result (λ e. IfDamaged e (λ n. (n ≡ name.now) × ForCatalogsOf self.old.rows (λ cs. IsSome (doc_at self.old.base cs name.now))
+            × IfSome (B.held self.old.area) (λ m. get m name.now ≡ None))) }
+
+        // Where the area holds what the catalog has there, that is the answer.
+        ensures exact { ForCatalogsOf self.old.rows (λ cs. IfSome (B.held self.old.area) (λ m. get m name.now ≡ doc_at self.old.base cs name.now
+            → IsRead (doc_at self.old.base cs name.now) result)) }
+        ensures absent { ForCatalogsOf self.old.rows (λ cs. doc_at self.old.base cs name.now ≡ None → IsRead None result) }
+
+        ensures fault { IsErrOf result ReadErr.Fault → HasRisen (B.faults self.old.area) (B.faults self.new.area) }
+        ensures same { (B.held self.new.area ≡ B.held self.old.area) × (self.new.base ≡ self.old.base) × (self.new.rows ≡ self.old.rows) }
+        ensures later { B.faults self.old.area ≤ B.faults self.new.area }
+    {
+        document_at(alloc, &mut self.area, self.rows.as_slice(), name)
+    }
+
+    /// The item at a place of a commit, read from its leaf. `Damaged` tells the leaf's name where the catalog has no
+    /// such place, or the area doesn't hold the leaf, or not one of the item that the catalog has there.
+    pub fn leaf(&mut self, alloc: Global, number: u32, place: u32) -> Result<Item, ReadErr>
+        ensures found { IfOk result (λ it. (row : Row) × Contains self.old.rows row × (row.number ≡ number) × (row.place ≡ place) × IsItemOf row it
+            × IfSome (B.held self.old.area) (λ m. HoldsLeaf m self.old.base row it)) }
+
+        // Where the area holds the leaf of the catalog's item, which is details, that is the answer.
+        ensures exact { ForCatalogsOf self.old.rows (λ cs. (c : Stored) (it : Item) → Contains cs c → c.commit.number ≡ number → slice_get c.commit.items place ≡ Some it
+            → IsItemValue it → IfSome (B.held self.old.area) (λ m. get m (leaf_name number place) ≡ doc_at self.old.base cs (leaf_name number place)
+            → IsRead it result)) }
+
+        ensures damaged { IfErr result (λ e. IfDamaged e (λ n. n ≡ leaf_name number place)) }
+        ensures fault { IsErrOf result ReadErr.Fault → HasRisen (B.faults self.old.area) (B.faults self.new.area) }
+        ensures same { (B.held self.new.area ≡ B.held self.old.area) × (self.new.base ≡ self.old.base) × (self.new.rows ≡ self.old.rows) }
+        ensures later { B.faults self.old.area ≤ B.faults self.new.area }
+    {
+        leaf_at(
+            alloc,
+            &mut self.area,
+            self.base.as_str(),
+            self.rows.as_slice(),
+            number,
+            place,
+        )
+    }
+
+    /// All commits, from the first on, each read from its leaf. `Damaged` tells the name of a leaf that the area
+    /// doesn't hold, or that isn't one of the item that the catalog has there.
+    pub fn commits(&mut self, alloc: Global) -> Result<Many<Commit>, ReadErr>
+        ensures found { IfOk result (λ commits. IfSome (B.held self.old.area) (λ m. AreCommitsAt m self.old.base self.old.rows commits)) }
+
+        // Where the area holds the leaves of the catalog, whose items are details, its commits are the answer.
+        ensures exact { ForCatalogsOf self.old.rows (λ cs. HaveValues (commits_of cs) → IfSome (B.held self.old.area) (λ m. HoldsLeaves m self.old.base cs
+            → IsRead (commits_of cs) result)) }
+
+        ensures damaged { IfErr result (λ e. IfDamaged e (λ n. (row : Row) × Contains self.old.rows row × (n ≡ leaf_name row.number row.place)
+            × IfSome (B.held self.old.area) (λ m. HasNoLeaf m self.old.base row))) }
+        ensures fault { IsErrOf result ReadErr.Fault → HasRisen (B.faults self.old.area) (B.faults self.new.area) }
+        ensures same { (B.held self.new.area ≡ B.held self.old.area) × (self.new.base ≡ self.old.base) × (self.new.rows ≡ self.old.rows) }
+        ensures later { B.faults self.old.area ≤ B.faults self.new.area }
+    {
+        commits_at(
+            alloc,
+            &mut self.area,
+            self.base.as_str(),
+            self.rows.as_slice(),
+        )
+    }
+
+    /// The bytes of the package that the publish at a place brought, or of its manifest; at a place of no publish those of
+    /// the blob of that name. `Damaged` tells the name where the area doesn't hold it.
+    pub fn staged(
+        &mut self,
+        alloc: Global,
+        number: u32,
+        place: u32,
+        nuspec: bool,
+    ) -> Result<Bytes, ReadErr>
+        ensures found { IfOk result (λ bytes. IfSome (B.held self.old.area) (λ m. get m (staged_name number place nuspec) ≡ Some bytes)) }
+        ensures damaged { IfErr result (λ e. IfDamaged e (λ n. (n ≡ staged_name number place nuspec)
+            × IfSome (B.held self.old.area) (λ m. get m (staged_name number place nuspec) ≡ None))) }
+        ensures fault { IsErrOf result ReadErr.Fault → HasRisen (B.faults self.old.area) (B.faults self.new.area) }
+        ensures same { (B.held self.new.area ≡ B.held self.old.area) × (self.new.base ≡ self.old.base) × (self.new.rows ≡ self.old.rows) }
+        ensures later { B.faults self.old.area ≤ B.faults self.new.area }
+    {
+        let name = staged_name(alloc, number, place, nuspec)?;
+        bytes_at(alloc, &mut self.area, &name)
     }
 
     /// Commits one publish. It takes its own memory before its first put. `Memory` may come before the

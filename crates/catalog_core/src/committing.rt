@@ -1,15 +1,15 @@
 // Which commit changes make of a catalog.
-ghost use Rattle.std.specs.Prelude.{◌≡◌, ◌⊎◌, ◌<◌, ◌+◌, [], ◌∷◌, ◌++◌, max, None, Some, length, IfOk, IfErr, IsErrOf, option_map};
-ghost use Rattle.catalog_core.specs.CatDocs.{all_rows};
+ghost use Rattle.std.specs.Prelude.{◌≡◌, ◌⊎◌, ◌<◌, ◌+◌, [], ◌∷◌, ◌++◌, max, None, Some, length, IfOk, IfErr, IsErrOf};
+ghost use Rattle.catalog_doc.specs.CatDocs.{all_rows};
 ghost use Rattle.catalog_core.specs.Commits.{commit_puts, made};
-ghost use Rattle.catalog_core.specs.Documents.{last_stamp};
+ghost use Rattle.catalog_doc.specs.Documents.{last_stamp};
 ghost use Rattle.catalog_core.specs.Verdicts.{first_standing, ForCatalogsOf, refusal, verdict};
 
 use crate::change::{Change, Changes};
 use crate::error::CommitErr;
 use crate::heads::Rows;
-use crate::page::last_of;
 use crate::prepared::{Prepared, prepare};
+use catalog_doc::last_of;
 use pkg_meta::{NoMemory, Ticks, after};
 use std::alloc::Global;
 

@@ -2,7 +2,7 @@
 ghost use Rattle.std.specs.Prelude.{◌≡◌};
 
 use blob_store::BlobErr;
-use pkg_meta::NoMemory;
+use pkg_meta::{NoMemory, Text};
 
 /// Why a catalog wasn't made.
 #[derive(Clone, Copy, Debug, PartialEq, Eq)]
@@ -38,6 +38,17 @@ pub enum CommitErr {
     Unsupported,
     /// The last stamp is the last moment of the calendar.
     ClockEnd,
+    /// A call of the store failed.
+    Fault,
+    /// Want of memory.
+    Memory,
+}
+
+/// Why nothing was read.
+#[derive(Drop)]
+pub enum ReadErr {
+    /// The blob of this name isn't held, or isn't what the catalog has there.
+    Damaged(Text),
     /// A call of the store failed.
     Fault,
     /// Want of memory.
@@ -113,5 +124,29 @@ impl From<NoMemory> for CommitErr {
 
     fn from(_: NoMemory) -> Self {
         CommitErr::Memory
+    }
+}
+
+impl From<BlobErr> for ReadErr {
+    ghost use Rattle.std.specs.Prelude.{◌≡◌};
+    ghost use Rattle.catalog_core.specs.Errors.{read_err_of};
+
+    ghost from_gives = { λ b e. e ≡ read_err_of b };
+
+    fn from(error: BlobErr) -> Self {
+        match error {
+            BlobErr::Failed => ReadErr::Fault,
+            BlobErr::Memory => ReadErr::Memory,
+        }
+    }
+}
+
+impl From<NoMemory> for ReadErr {
+    ghost use Rattle.catalog_core.specs.declared.error.ReadErr.TheVariants.{Memory};
+
+    ghost from_gives = { λ _ e. e ≡ Memory };
+
+    fn from(_: NoMemory) -> Self {
+        ReadErr::Memory
     }
 }

@@ -1,5 +1,5 @@
 // The hash of a package.
-ghost use Rattle.std.specs.Prelude.{◌≡◌, IfOk, string_bytes};
+ghost use Rattle.std.specs.Prelude.{◌≡◌, IfOk};
 ghost use Rattle.catalog_core.specs.Hash.{hash_text};
 
 use base64::engine::general_purpose::STANDARD;

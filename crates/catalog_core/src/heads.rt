@@ -3,7 +3,7 @@ ghost use Rattle.std.specs.Prelude.{◌≡◌, ◌++◌, ◌∷◌, [], length, 
 ghost use Rattle.nuget_version.specs.Printed.{key_text};
 ghost use Rattle.catalog_core.specs.Heads.{pair_text};
 
-use crate::row::Row;
+use catalog_doc::Row;
 use indexmap::IndexMap;
 use pkg_meta::{Many, NoMemory, PackageId, Version};
 use std::alloc::Global;
@@ -28,7 +28,7 @@ pub(crate) struct Rows {
 
 impl Model for Rows {
     ghost use Rattle.std.specs.Prelude.{List};
-    ghost use Rattle.catalog_core.specs.declared.row.Row.{Row};
+    ghost use Rattle.catalog_doc.specs.declared.row.Row.{Row};
 
     ghost Value = { List Row };
 

@@ -1,19 +1,24 @@
-// What holds of the documents of every catalog.
+// What holds of every catalog: of its documents, its commits, and the areas that hold it.
 ghost use Rattle.std.specs.Prelude.{◌≡◌, ◌+◌, ◌<◌, ◌≤◌, ◌^◌, ◌++◌, ◌∷◌, ℕ, List, [], Some, length};
+ghost use Rattle.std.specs.FinMap.{get};
 ghost use Rattle.pkg_meta.specs.Catalog.{Catalog, Stored};
 ghost use Rattle.pkg_meta.specs.Lawful.{IsLawful, IsNext};
 ghost use Rattle.pkg_meta.specs.declared.meta.Meta.{Meta};
-ghost use Rattle.catalog_core.specs.CatDocs.{all_rows, doc_at};
-ghost use Rattle.catalog_core.specs.Commits.{index_put, page_put};
-ghost use Rattle.catalog_core.specs.Laws.{ArePutsOfDocuments, empty_index, first, first_base, first_index, first_leaf, first_page, FitsOnePage, HasLeaves, HasOwnNumber, HaveSamePages, IsElsewhere, IsFoo, IsInRange, PutsDocument};
-ghost use Rattle.catalog_core.specs.Names.{index_name, leaf_name, page_name};
+ghost use Rattle.catalog_doc.specs.CatDocs.{all_rows, doc_at};
+ghost use Rattle.catalog_core.specs.Commits.{commit_puts, index_put, page_put};
+ghost use Rattle.catalog_doc.specs.Laws.{HasLeaves, HasOwnNumber};
+ghost use Rattle.catalog_core.specs.Laws.{ArePutsOfDocuments, empty_index, first, first_base, first_index, first_leaf, first_page, IsFoo, PutsDocument};
+ghost use Rattle.catalog_doc.specs.Names.{index_name, leaf_name, page_name};
 ghost use Rattle.catalog_core.specs.Verdicts.{HaveDistinctPairs, IsSimple, verdict};
 ghost use Rattle.catalog_core.specs.declared.change.Change.{Change};
 ghost use Rattle.catalog_core.specs.declared.change.Change.TheVariants.{Publish};
 ghost use Rattle.catalog_core.specs.Opened.{Holds};
 ghost use Rattle.catalog_core.specs.Plain.{ArePlainRows, IsBareMeta, IsPlain};
-ghost use Rattle.catalog_core.specs.declared.row.Row.{Row};
+ghost use Rattle.catalog_doc.specs.declared.row.Row.{Row};
+ghost use Rattle.catalog_core.specs.Leaves.{commits_of, HaveValues};
+ghost use Rattle.catalog_core.specs.Whole.{HaveSizes, IsWhole};
 ghost use Rattle.blob_store.specs.Area.{Area};
+ghost use Rattle.blob_store.specs.Runs.{after_calls, IsAfterSome};
 
 /// The documents of the catalog of one publish, byte for byte, and the index of no commits. There is
 /// metadata such as it speaks of. It does nothing.
@@ -28,13 +33,6 @@ pub fn first_documents()
     ensures no_commits { doc_at first_base [] index_name ≡ Some empty_index }
 {}
 
-/// A commit changes the index, one page and leaves of its own, and no other document, in catalogs of
-/// every length. It does nothing.
-pub fn one_page_changes()
-    ensures { (base : List ℕ) (cs : Catalog) (c : Stored) (name : List ℕ) → IsElsewhere cs c name
-        → doc_at base (cs ++ c ∷ []) name ≡ doc_at base cs name }
-{}
-
 /// What the puts of a commit write is what the catalog with the commit has at their names. It does nothing.
 pub fn commit_puts_documents()
     ensures index { (base : List ℕ) (cs : Catalog) → PutsDocument base cs (index_put base cs) }
@@ -44,19 +42,6 @@ pub fn commit_puts_documents()
         → length c.commit.items ≤ 2 ^ 64 → HasLeaves base cs c }
     ensures calls { (base : List ℕ) (cs : Catalog) (c : Stored) → length cs + 1 < 2 ^ 64 → HasOwnNumber cs c
         → length c.commit.items ≤ 2 ^ 64 → ArePutsOfDocuments base cs c }
-{}
-
-/// Catalogs with the same pages have the same rows, for catalogs of one page at the most where their
-/// first page is the same; and those with the same index stand at one base address. It does nothing.
-pub fn different_catalogs()
-    ensures rows { (base other : List ℕ) (cs ds : Catalog) → FitsOnePage cs → FitsOnePage ds
-        → doc_at base cs (page_name 0) ≡ doc_at other ds (page_name 0) → all_rows cs ≡ all_rows ds }
-    ensures pages { (base other : List ℕ) (cs ds : Catalog) → IsInRange cs → IsInRange ds
-        → HaveSamePages base other cs ds → all_rows cs ≡ all_rows ds }
-    ensures base { (base other : List ℕ) (cs ds : Catalog) → FitsOnePage cs → FitsOnePage ds
-        → doc_at base cs index_name ≡ doc_at other ds index_name → base ≡ other }
-    ensures any_base { (base other : List ℕ) (cs ds : Catalog) → IsInRange cs → IsInRange ds
-        → doc_at base cs index_name ≡ doc_at other ds index_name → base ≡ other }
 {}
 
 /// A publish that isn't refused may follow the catalog that it is committed onto: its number is the next and
@@ -81,4 +66,21 @@ pub fn plain_catalogs()
     ensures simple { (cs : Catalog) → IsPlain cs → IsSimple cs }
     ensures grows { (cs : Catalog) (meta : Meta) (nuspec nupkg : List ℕ) (now : ℕ) (c : Stored) → now ≤ 3_155_378_975_999_999_999
         → IsPlain cs → IsBareMeta meta → verdict cs (Publish meta nuspec nupkg ∷ []) now ≡ Ok c → IsPlain (cs ++ c ∷ []) }
+{}
+
+/// An area that holds a catalog's leaves and packages does so after each call of a commit, and holds the new ones too where the page
+/// has them. The items of a catalog are values of the code's types, where each package has fewer than 2^64 bytes. It does nothing.
+pub fn whole_catalogs()
+    ensures none { (m : Area) (base : List ℕ) → IsWhole m base [] }
+    ensures grows { (m : Area) (base : List ℕ) (cs : Catalog) (meta : Meta) (nuspec nupkg : List ℕ) (now : ℕ) (c : Stored) → IsPlain cs
+        → IsWhole m base cs → verdict cs (Publish meta nuspec nupkg ∷ []) now ≡ Ok c
+        → IsWhole (after_calls (commit_puts base cs c) m) base (cs ++ c ∷ []) }
+    ensures stops { (m : Area) (base : List ℕ) (cs : Catalog) (meta : Meta) (nuspec nupkg : List ℕ) (now : ℕ) (c : Stored) → IsPlain cs
+        → IsWhole m base cs → verdict cs (Publish meta nuspec nupkg ∷ []) now ≡ Ok c
+        → (left : Area) → IsAfterSome (commit_puts base cs c) m left → IsWhole left base cs }
+    ensures page { (m : Area) (base : List ℕ) (cs : Catalog) (meta : Meta) (nuspec nupkg : List ℕ) (now : ℕ) (c : Stored) → IsPlain cs
+        → IsPlain (cs ++ c ∷ []) → Holds m base cs → IsWhole m base cs → verdict cs (Publish meta nuspec nupkg ∷ []) now ≡ Ok c
+        → (left : Area) → IsAfterSome (commit_puts base cs c) m left
+        → get left (page_name 0) ≡ doc_at base (cs ++ c ∷ []) (page_name 0) → IsWhole left base (cs ++ c ∷ []) }
+    ensures values { (cs : Catalog) → IsPlain cs → HaveSizes cs → HaveValues (commits_of cs) }
 {}

@@ -1,34 +1,26 @@
-//! The catalog of a feed: its documents, its opening and its commits.
+//! The catalog of a feed in its area: its opening, its commits, and what is read of it.
 #![tactic(auto)]
 
 mod catalog;
 mod change;
 mod committing;
+mod documents;
 mod error;
-mod fields;
 mod hash;
-mod head;
 mod heads;
-mod index;
+mod items;
 mod laws;
-mod leaf;
-mod names;
 mod opening;
-mod page;
 mod plain;
 mod prepared;
 mod puts;
-mod reading;
-mod row;
 mod stores;
 
 pub use catalog::{Catalog, init, open_catalog};
+pub use catalog_doc::{PageHead, Row};
 pub use change::{Change, Changes, Committed};
-pub use error::{CommitErr, InitErr, OpenErr};
-pub use head::PageHead;
+pub use error::{CommitErr, InitErr, OpenErr, ReadErr};
 pub use laws::{
-    commit_puts_documents, commits_follow, different_catalogs, first_documents, one_page_changes,
-    plain_catalogs,
+    commit_puts_documents, commits_follow, first_documents, plain_catalogs, whole_catalogs,
 };
-pub use row::Row;
 pub use stores::Stores;

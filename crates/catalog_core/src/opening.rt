@@ -2,26 +2,20 @@
 ghost use Rattle.std.specs.Prelude.{◌≡◌, ◌≤◌, ◌↔◌, ℕ, List, Some, None, IfOk, IfSome, IsErrOf, IsSome, IsTrue, IsUtf8};
 ghost use Rattle.std.specs.FinMap.{get};
 ghost use Rattle.feed_base.specs.Counts.{HasRisen};
-ghost use Rattle.catalog_core.specs.Documents.{index_text};
-ghost use Rattle.catalog_core.specs.Names.{index_name};
-ghost use Rattle.catalog_core.specs.Opened.{HoldsPlain, IsOpened};
+ghost use Rattle.catalog_doc.specs.Documents.{index_text};
+ghost use Rattle.catalog_doc.specs.Names.{index_name};
+ghost use Rattle.catalog_core.specs.Opened.{HoldsPlain, HoldsRows, IsOpened};
 ghost use Rattle.catalog_core.specs.Plain.{ArePlainRows};
-ghost use Rattle.catalog_core.specs.Reading.{HoldsRows, one_head, one_page};
-ghost use Rattle.catalog_core.specs.declared.row.Row.{Row};
+ghost use Rattle.catalog_doc.specs.Reading.{one_head, one_page};
+ghost use Rattle.catalog_doc.specs.declared.row.Row.{Row};
 
 use crate::error::OpenErr;
-use crate::head::PageHead;
 use crate::heads::Rows;
-use crate::names::INDEX_NAME;
 use crate::plain::{are_heads_of, are_plain};
-use crate::reading::{Index, read_index, read_page};
-use crate::row::Row;
 use blob_store::Blobs;
-use pkg_meta::{Bytes, Many, NoMemory, Text};
+use catalog_doc::{DocErr, FIRST_PAGE_NAME, INDEX_NAME, PageHead, Row, read_index, read_page};
+use pkg_meta::{Bytes, Many, Text};
 use std::alloc::Global;
-
-// The name of the first page.
-const FIRST_PAGE_NAME: &str = "page0.json";
 
 /// What an area holds: the base address and the rows.
 #[derive(Drop)]
@@ -30,25 +24,20 @@ pub(crate) struct Found {
     pub(crate) rows: Many<Row>,
 }
 
-// The rows of the first page, none where it isn't held, or nothing where it is no page.
-fn rows_of_page(
-    alloc: Global,
-    base: &str,
-    page: &Option<Bytes>,
-) -> Result<Option<Many<Row>>, NoMemory>
-    ensures some { IfOk result (λ found. IfSome found (λ rows. page.now ≡ one_page base.now rows)) }
-    ensures exact { (rows : List Row) → ArePlainRows rows → page.now ≡ one_page base.now rows → IfOk result (λ found. found ≡ Some rows) }
+// The rows of the first page, none where it isn't held. `Damaged` comes where it is no page.
+fn rows_of_page(alloc: Global, base: &str, page: &Option<Bytes>) -> Result<Many<Row>, DocErr>
+    ensures ok { IfOk result (λ rows. page.now ≡ one_page base.now rows) }
+    ensures exact { (rows : List Row) → ArePlainRows rows → page.now ≡ one_page base.now rows → IfOk result (λ found. found ≡ rows) }
+    ensures damaged { IsErrOf result DocErr.Damaged → (rows : List Row) → ArePlainRows rows → page.now ≡ one_page base.now rows → ⊥ }
 {
     let Some(bytes) = page else {
-        return Ok(Some(Many::new(alloc)));
+        return Ok(Many::new(alloc));
     };
-    let Some(rows) = read_page(alloc, base, 0, bytes.as_slice())? else {
-        return Ok(None);
-    };
+    let rows = read_page(alloc, base, 0, bytes.as_slice())?;
     if rows.len() == 0 {
-        return Ok(None);
+        return Err(DocErr::Damaged);
     }
-    Ok(Some(rows))
+    Ok(rows)
 }
 
 // Whether these are the heads and the rows of commits of one bare publish each.
@@ -58,22 +47,18 @@ fn are_of_one_catalog(heads: &[PageHead], rows: &[Row]) -> bool
     are_plain(rows) && are_heads_of(heads, rows)
 }
 
-// The catalog whose index and first page these are.
-fn found_in(alloc: Global, index: &[u8], page: &Option<Bytes>) -> Result<Option<Found>, NoMemory>
-    ensures some { IfOk result (λ found. IfSome found (λ f. IsUtf8 f.base × ArePlainRows f.rows × (index.now ≡ index_text f.base (one_head f.rows)) × (page.now ≡ one_page f.base f.rows))) }
-    ensures exact { (base : List ℕ) (rows : List Row) → IsUtf8 base → ArePlainRows rows → index.now ≡ index_text base (one_head rows) → page.now ≡ one_page base rows → IfOk result (λ found. found ≡ Some (record { base = base; rows = rows })) }
+// The catalog whose index and first page these are. `Damaged` comes where they are those of no catalog.
+fn found_in(alloc: Global, index: &[u8], page: &Option<Bytes>) -> Result<Found, DocErr>
+    ensures ok { IfOk result (λ f. IsUtf8 f.base × ArePlainRows f.rows × (index.now ≡ index_text f.base (one_head f.rows)) × (page.now ≡ one_page f.base f.rows)) }
+    ensures exact { (base : List ℕ) (rows : List Row) → IsUtf8 base → ArePlainRows rows → index.now ≡ index_text base (one_head rows) → page.now ≡ one_page base rows → IfOk result (λ found. found ≡ record { base = base; rows = rows }) }
+    ensures damaged { IsErrOf result DocErr.Damaged → (base : List ℕ) (rows : List Row) → IsUtf8 base → ArePlainRows rows → index.now ≡ index_text base (one_head rows) → page.now ≡ one_page base rows → ⊥ }
 {
-    let Some(read) = read_index(alloc, index)? else {
-        return Ok(None);
-    };
-    let Index { base, heads } = read;
-    let Some(rows) = rows_of_page(alloc, base.as_str(), page)? else {
-        return Ok(None);
-    };
+    let (base, heads) = read_index(alloc, index)?;
+    let rows = rows_of_page(alloc, base.as_str(), page)?;
     if are_of_one_catalog(heads.as_slice(), rows.as_slice()) {
-        Ok(Some(Found { base, rows }))
+        Ok(Found { base, rows })
     } else {
-        Ok(None)
+        Err(DocErr::Damaged)
     }
 }
 
@@ -91,9 +76,10 @@ pub(crate) fn find<B: Blobs>(alloc: Global, area: &mut B) -> Result<Found, OpenE
         return Err(OpenErr::Missing);
     };
     let page = area.get(alloc, FIRST_PAGE_NAME)?;
-    match found_in(alloc, index.as_slice(), &page)? {
-        Some(found) => Ok(found),
-        None => Err(OpenErr::Unsupported),
+    match found_in(alloc, index.as_slice(), &page) {
+        Ok(found) => Ok(found),
+        Err(DocErr::Damaged) => Err(OpenErr::Unsupported),
+        Err(DocErr::Memory) => Err(OpenErr::Memory),
     }
 }
 

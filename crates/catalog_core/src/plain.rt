@@ -1,11 +1,9 @@
 // Whether rows are those of a catalog of one bare publish a commit.
-ghost use Rattle.std.specs.Prelude.{◌≡◌, ◌∷◌, ◌<◌, ◌≤◌, ◌↔◌, [], IsTrue, MatchOption, length};
+ghost use Rattle.std.specs.Prelude.{◌≡◌, ◌∷◌, ◌≤◌, ◌↔◌, [], IsTrue, MatchOption, length};
 ghost use Rattle.catalog_core.specs.Plain.{ArePlainRows, ArePlainRowsFrom, IsBareVersion, IsPlainRow};
-ghost use Rattle.catalog_core.specs.Reading.{one_head};
+ghost use Rattle.catalog_doc.specs.Reading.{one_head};
 
-use crate::head::{PageHead, first_moment};
-use crate::page::last_of;
-use crate::row::Row;
+use catalog_doc::{PageHead, Row, first_moment, last_of};
 use pkg_meta::{Ticks, Version};
 
 /// How many items a page holds at the most.

@@ -1,16 +1,15 @@
 // A commit that is ready to be put.
 ghost use Rattle.std.specs.Prelude.{◌≡◌, ◌<◌, ◌+◌, ◌^◌, [], ◌∷◌, ◌++◌, IfOk, OnOk, length};
 ghost use Rattle.blob_store.specs.declared.call.Call.TheVariants.{Put};
-ghost use Rattle.catalog_core.specs.CatDocs.{rows_of};
-ghost use Rattle.catalog_core.specs.Commits.{commit_at, one_page_puts, place_puts};
-ghost use Rattle.catalog_core.specs.Documents.{head_of, index_text, page_text};
-ghost use Rattle.catalog_core.specs.Names.{index_name, page_name};
+ghost use Rattle.catalog_doc.specs.CatDocs.{rows_of};
+ghost use Rattle.catalog_core.specs.Commits.{commit_at, one_page_puts};
+ghost use Rattle.catalog_doc.specs.Documents.{head_of, index_text, page_text};
+ghost use Rattle.catalog_doc.specs.Names.{index_name, page_name};
 
 use crate::change::Change;
-use crate::head::PageHead;
 use crate::puts::{index_call, page_call, place_calls, publish_details, publish_row};
-use crate::row::Row;
 use blob_store::Call;
+use catalog_doc::{PageHead, Row};
 use pkg_meta::{Many, NoMemory, Ticks};
 use std::alloc::Global;
 

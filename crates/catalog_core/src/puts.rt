@@ -3,18 +3,16 @@ ghost use Rattle.std.specs.Prelude.{◌≡◌, [], ◌∷◌, ◌++◌, false, I
 ghost use Rattle.blob_store.specs.declared.call.Call.TheVariants.{Put};
 ghost use Rattle.pkg_meta.specs.declared.item.Item.TheVariants as the;
 ghost use Rattle.catalog_core.specs.Commits.{item_of, place_puts, staged_of};
-ghost use Rattle.catalog_core.specs.Documents.{index_text, page_text};
-ghost use Rattle.catalog_core.specs.Names.{index_name, page_name};
+ghost use Rattle.catalog_doc.specs.Documents.{index_text, page_text};
+ghost use Rattle.catalog_doc.specs.Names.{index_name, page_name};
 
 use crate::change::Change;
 use crate::hash::package_hash;
-use crate::head::PageHead;
-use crate::index::index_bytes;
-use crate::leaf::details_bytes;
-use crate::names::{INDEX_NAME, leaf_name, nupkg_name, nuspec_name, page_name};
-use crate::page::longer_page_bytes;
-use crate::row::Row;
 use blob_store::Call;
+use catalog_doc::{
+    INDEX_NAME, PageHead, Row, details_bytes, index_bytes, leaf_name, longer_page_bytes,
+    nupkg_name, nuspec_name, page_name,
+};
 use pkg_meta::{Bytes, Details, NoMemory, Text, Ticks};
 use std::alloc::Global;
 

@@ -2,12 +2,12 @@ use Rattle.std.proofs.Common.{◌≡◌, ◌∙◌, ⊎_elim, inl, inr, sym, ap,
 use Rattle.std.specs.Prelude.{slice_get}
 use Rattle.std.proofs.lemmas.Result.{err_from_is_err_and}
 use Rattle.pkg_meta.specs.Catalog.{Stored}
-use Rattle.catalog_core.specs.CatDocs.{rows_of}
+use Rattle.catalog_doc.specs.CatDocs.{rows_of}
 use Rattle.catalog_core.specs.Commits.{commit_at, commit_puts, made, one_page_puts}
-use Rattle.catalog_core.specs.Documents.{last_stamp}
+use Rattle.catalog_doc.specs.Documents.{last_stamp}
 use Rattle.catalog_core.specs.Verdicts.{refusal}
 use Rattle.catalog_core.specs.declared.change.Change.{Change}
-use Rattle.catalog_core.specs.declared.row.Row.{Row}
+use Rattle.catalog_doc.specs.declared.row.Row.{Row}
 use Rattle.catalog_core.proofs.Fronts.{one_change}
 use Rattle.catalog_core.proofs.Simple.{made_by_rows, newest_single, one_page, refused_verdict, rows_pushed, rows_single, taken_verdict}
 use Rattle.catalog_core.proofs.committing.plan.Goals as goal

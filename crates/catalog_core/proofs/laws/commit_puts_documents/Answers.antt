@@ -1,5 +1,5 @@
-use Rattle.catalog_core.proofs.AllPuts.{puts_are}
-use Rattle.catalog_core.proofs.NewDocs.{leaves_there, page_put-document}
+use Rattle.catalog_core.proofs.AllPuts.{page_put-document, puts_are}
+use Rattle.catalog_doc.proofs.NewDocs.{leaves_there}
 use Rattle.catalog_core.proofs.laws.commit_puts_documents.Goals as goal
 
 pub returns-clause-page : goal.returns-clause-page

@@ -1,37 +1,39 @@
-use Rattle.std.proofs.Common.{◌≡◌, ◌∙◌, ℕ, List, Some, ap, sym, subst}
-use Rattle.std.proofs.lemmas.Option.{none-some, same_Some}
+use Rattle.std.proofs.Common.{◌≡◌, ◌∙◌, List, ap, subst, sym, ℕ}
+use Rattle.std.proofs.lemmas.Result.{err_from_is_err_and}
+use Rattle.catalog_doc.specs.Reading.{one_head, one_page}
+use Rattle.catalog_doc.specs.declared.error.DocErr.TheVariants.{Damaged}
+use Rattle.catalog_doc.proofs.Readable.{differs}
 use Rattle.catalog_core.specs.Plain.{ArePlainRows}
-use Rattle.catalog_core.specs.Reading.{one_head, one_page}
-use Rattle.catalog_core.specs.declared.reading.Index.{Index}
+use Rattle.catalog_core.proofs.Openings.{moved}
 use Rattle.catalog_core.proofs.Plains.{head_values}
-use Rattle.catalog_core.proofs.Readable.{differs}
 use Rattle.catalog_core.proofs.opening.found_in.Goals as goal
 
-pub returns-in_default-clause-exact : goal.returns-in_default-clause-exact
-returns-in_default-clause-exact c = λ base rows text plain i p.
+pub returns-in_err-base-clause-damaged : goal.returns-in_err-base-clause-damaged
+returns-in_err-base-clause-damaged c =
+    let p = err_from_is_err_and c.from_residual.result c.from_residual.ensures.1 in
+    rw (p.1, p.2) (λ told base rows text plain i page.
     let values = head_values rows plain in
-    absurd (none-some _ (sym c.in_default.is ∙ c.in_ok-read.ensures.exact base (one_head rows) text values.0 values.1 i))
+    c.in_err-base.ensures.damaged (moved c.in_err-base.field-0.0 Damaged told) base (one_head rows) text values.0 values.1 i)
 
-pub returns-in_default-2-clause-exact : goal.returns-in_default-2-clause-exact
-returns-in_default-2-clause-exact c = λ base rows text plain i p.
+pub returns-in_err-rows-clause-damaged : goal.returns-in_err-rows-clause-damaged
+returns-in_err-rows-clause-damaged c =
+    let p = err_from_is_err_and c.from_residual-in_err-rows.result c.from_residual-in_err-rows.ensures.1 in
+    rw (p.1, p.2) (λ told base rows text plain i page.
     let values = head_values rows plain in
-    let same = same_Some c.in-Some.read _ (sym c.in-Some.is ∙ c.in_ok-read.ensures.exact base (one_head rows) text values.0 values.1 i) in
-    let bases : c.as_str.result.now ≡ base = c.as_str.ensures ∙ ap (λ (x : Index). x.base) same in
-    absurd (none-some rows (sym c.in_default-2.is ∙ c.in_ok-rows.ensures.exact rows plain (p ∙ ap (λ (b : List ℕ). one_page b rows) (sym bases))))
+    let bases : c.as_str.result.now ≡ base = c.as_str.ensures ∙ (c.in_ok-base.ensures.exact base (one_head rows) text values.0 values.1 i).0 in
+    c.in_err-rows.ensures.damaged (moved c.in_err-rows.field-0.0 Damaged told) rows plain (page ∙ ap (λ (b : List ℕ). one_page b rows) (sym bases)))
 
 pub returns-then-are_of_one_catalog-clause-exact : goal.returns-then-are_of_one_catalog-clause-exact
-returns-then-are_of_one_catalog-clause-exact c = λ base rows text plain i p.
+returns-then-are_of_one_catalog-clause-exact c = λ base rows text plain i page.
     let values = head_values rows plain in
-    let same = same_Some c.in-Some.read _ (sym c.in-Some.is ∙ c.in_ok-read.ensures.exact base (one_head rows) text values.0 values.1 i) in
-    let bases : c.in-Some.read.base ≡ base = ap (λ (x : Index). x.base) same in
-    let own : c.in-Some-2.rows ≡ rows = same_Some c.in-Some-2.rows rows (sym c.in-Some-2.is ∙ c.in_ok-rows.ensures.exact rows plain (p ∙ ap (λ (b : List ℕ). one_page b rows) (sym (c.as_str.ensures ∙ bases)))) in
-    λ j. Some (record { base = bases j; rows = own j })
+    let bases : c.in_ok-base.base ≡ base = (c.in_ok-base.ensures.exact base (one_head rows) text values.0 values.1 i).0 in
+    let own : c.in_ok-rows.rows ≡ rows = c.in_ok-rows.ensures.exact rows plain (page ∙ ap (λ (b : List ℕ). one_page b rows) (sym (c.as_str.ensures ∙ bases))) in
+    λ j. record { base = bases j; rows = own j }
 
-pub returns-else-are_of_one_catalog-clause-exact : goal.returns-else-are_of_one_catalog-clause-exact
-returns-else-are_of_one_catalog-clause-exact c = λ base rows text plain i p.
+pub returns-else-are_of_one_catalog-clause-damaged : goal.returns-else-are_of_one_catalog-clause-damaged
+returns-else-are_of_one_catalog-clause-damaged c = λ told base rows text plain i page.
     let values = head_values rows plain in
-    let same = same_Some c.in-Some.read _ (sym c.in-Some.is ∙ c.in_ok-read.ensures.exact base (one_head rows) text values.0 values.1 i) in
-    let bases : c.in-Some.read.base ≡ base = ap (λ (x : Index). x.base) same in
-    let own : c.as_slice-2.result.now ≡ rows = c.as_slice-2.ensures ∙ same_Some c.in-Some-2.rows rows (sym c.in-Some-2.is ∙ c.in_ok-rows.ensures.exact rows plain (p ∙ ap (λ (b : List ℕ). one_page b rows) (sym (c.as_str.ensures ∙ bases)))) in
-    let heads : c.as_slice.result.now ≡ one_head rows = c.as_slice.ensures ∙ ap (λ (x : Index). x.heads) same in
-    absurd (differs c.if-are_of_one_catalog.false (c.are_of_one_catalog.ensures.1 (subst ArePlainRows (sym own) plain, heads ∙ ap one_head (sym own))))
+    let read = c.in_ok-base.ensures.exact base (one_head rows) text values.0 values.1 i in
+    let own : c.as_slice-2.result.now ≡ rows = c.as_slice-2.ensures ∙ c.in_ok-rows.ensures.exact rows plain (page ∙ ap (λ (b : List ℕ). one_page b rows) (sym (c.as_str.ensures ∙ read.0))) in
+    let heads : c.as_slice.result.now ≡ one_head rows = c.as_slice.ensures ∙ read.1 in
+    differs c.if-are_of_one_catalog.false (c.are_of_one_catalog.ensures.1 (subst ArePlainRows (sym own) plain, heads ∙ ap one_head (sym own)))

@@ -1,17 +1,12 @@
-use Rattle.std.proofs.Common.{◌≡◌, List, Err, ap}
-use Rattle.std.specs.Result.{IsErrOf}
+use Rattle.std.proofs.Common.{◌≡◌, List}
 use Rattle.catalog_core.specs.declared.error.OpenErr.TheVariants.{Unsupported}
 use Rattle.std.proofs.lemmas.Result.{err_from_is_err_and}
-use Rattle.feed_base.proofs.Options.{at_some}
+use Rattle.feed_base.proofs.Options.{at_none, at_some}
 use Rattle.catalog_core.specs.Verdicts.{HaveDistinctPairs}
-use Rattle.catalog_core.specs.declared.row.Row.{Row}
+use Rattle.catalog_doc.specs.declared.row.Row.{Row}
 use Rattle.catalog_core.proofs.Finds.{catalog_found, no_catalog, twice_found}
-use Rattle.catalog_core.proofs.Openings.{at_none}
+use Rattle.catalog_core.proofs.Openings.{moved}
 use Rattle.catalog_core.proofs.opening.look.Goals as goal
-
--- an error is the same in place of another value
-moved : {A B E : Type 0} (x y : E) → IsErrOf {T = A} {E = E} (Err x) y → IsErrOf {T = B} {E = E} (Err x) y
-moved x y e = let same : x ≡ y = cc e in ap Err same
 
 pub returns-in_err-base-clause-unsupported : goal.returns-in_err-base-clause-unsupported
 returns-in_err-base-clause-unsupported g c =

@@ -5,9 +5,9 @@ use Rattle.pkg_meta.specs.Items.{id_of, version_of, is_gone}
 use Rattle.pkg_meta.specs.declared.item.Item.{Item}
 use Rattle.pkg_meta.specs.declared.item.Item.TheVariants as the
 use Rattle.catalog_core.specs.Commits.{place_puts, staged_of}
-use Rattle.catalog_core.specs.Documents.{head_of, index_text, page_text}
-use Rattle.catalog_core.specs.Names.{index_name, page_name}
-use Rattle.catalog_core.specs.declared.row.Row.{Row}
+use Rattle.catalog_doc.specs.Documents.{head_of, index_text, page_text}
+use Rattle.catalog_doc.specs.Names.{index_name, page_name}
+use Rattle.catalog_doc.specs.declared.row.Row.{Row}
 use Rattle.catalog_core.proofs.prepared.prepare.Goals as goal
 
 pub returns-clause-calls : goal.returns-clause-calls

@@ -2,7 +2,7 @@ use Rattle.std.proofs.Common.{ap, ◌∙◌, List, ℕ, option_map}
 use Rattle.nuget_version.specs.Printed.{key_text}
 use Rattle.catalog_core.specs.Heads.{head_by, last_named}
 use Rattle.catalog_core.specs.Verdicts.{last_row}
-use Rattle.catalog_core.specs.declared.row.Row.{Row}
+use Rattle.catalog_doc.specs.declared.row.Row.{Row}
 use Rattle.catalog_core.proofs.LastRows.{named_row}
 use Rattle.catalog_core.proofs.heads.Rows.last.Goals as goal
 

@@ -1,7 +1,7 @@
 use Rattle.std.proofs.Common.{◌≡◌, ◌∙◌, ap, sym, subst, take, length, get_or, ◌<◌, List, ◌++◌, ◌∷◌, [], ◌+◌}
 use Rattle.std.proofs.lemmas.List.{take_more}
 use Rattle.catalog_core.specs.Heads.{HasHeads}
-use Rattle.catalog_core.specs.declared.row.Row.{Row}
+use Rattle.catalog_doc.specs.declared.row.Row.{Row}
 use Rattle.catalog_core.proofs.LastRows.{head_before, heads_pushed, new_turn, no_row, not_new, some_row}
 use Rattle.catalog_core.proofs.heads.Rows.of_rows.Goals as goal
 

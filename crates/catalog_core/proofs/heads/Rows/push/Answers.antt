@@ -1,6 +1,6 @@
 use Rattle.std.proofs.Common.{subst, sym, List}
 use Rattle.catalog_core.specs.Heads.{HasHeads}
-use Rattle.catalog_core.specs.declared.row.Row.{Row}
+use Rattle.catalog_doc.specs.declared.row.Row.{Row}
 use Rattle.catalog_core.proofs.LastRows.{heads_kept, heads_pushed}
 use Rattle.catalog_core.proofs.heads.Rows.push.Goals as goal
 

@@ -1,0 +1,13 @@
+pub mod AllPages
+pub mod CommitIds
+pub mod DocNames
+pub mod LeafTexts
+pub mod Lists
+pub mod LookUps
+pub mod NewDocs
+pub mod OnePage
+pub mod Parsed
+pub mod Readable
+pub mod RowData
+pub mod Texts
+pub mod Walks
