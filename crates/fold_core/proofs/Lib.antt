@@ -1,4 +1,5 @@
 pub mod Applied
+pub mod Counts
 pub mod Gathered
 pub mod Lasts
 pub mod Numbers

@@ -27,6 +27,7 @@ owner (a ∷ b ∷ rest) = if (a == 100) && (b == 47) then before_slash rest els
 abbrev pub name_of : List ℕ → List ℕ → List ℕ
 name_of key rest = codes "d/" ++ (key ++ (codes "/" ++ rest))
 
+-- the name of an id's index
 abbrev pub index_name : List ℕ → List ℕ
 index_name key = name_of key (codes "index.json")
 
@@ -56,6 +57,7 @@ brought_at cs (suc n) place = option_and_then (brought_in place) (slice_get cs n
 abbrev pub part : Bool → Staged → List ℕ
 part nuspec s = if nuspec then s.nuspec else s.nupkg
 
+-- the bytes of a body, where the catalog has them
 abbrev pub bytes_of : Catalog → Body → Option (List ℕ)
 bytes_of cs (Made bytes) = Some bytes
 bytes_of cs (FromPublish number place nuspec) = option_map (part nuspec) (brought_at cs number place)

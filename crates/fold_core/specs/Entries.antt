@@ -17,6 +17,7 @@ use Rattle.fold_core.specs.declared.entry.Entry.{Entry}
 abbrev pub Keeps : Type 0
 Keeps = Details → Bool
 
+-- an item under its version
 abbrev pub by_version : Placed → Version × Placed
 by_version x = (version_of x.what, x)
 
@@ -29,6 +30,7 @@ abbrev pub entry_at : Keeps → ℕ → ℕ → Item → Option Entry
 entry_at keeps number place (the.Details d) = if keeps d then Some (record { number = number; place = place; details = d }) else None
 entry_at keeps number place (the.Gone i v) = None
 
+-- the entry of an item with its number and place
 abbrev pub entry_of : Keeps → Placed → Option Entry
 entry_of keeps x = entry_at keeps x.number x.place x.what
 
@@ -36,6 +38,7 @@ entry_of keeps x = entry_at keeps x.number x.place x.what
 abbrev pub entries_of : Keeps → List Placed → List Entry
 entries_of keeps items = filter_map (entry_of keeps) (values (last_items items))
 
+-- an entry's version
 abbrev pub version_in : Entry → Version
 version_in e = e.details.meta.version
 

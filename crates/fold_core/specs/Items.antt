@@ -70,6 +70,7 @@ abbrev pub number_in : Option Placed → ℕ
 number_in None = 0
 number_in (Some x) = x.number
 
+-- its stamp, 0 where there is none
 abbrev pub moment_in : Option Placed → ℕ
 moment_in None = 0
 moment_in (Some x) = x.stamp

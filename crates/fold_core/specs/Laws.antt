@@ -20,6 +20,7 @@ AreOwned key docs = AllByRecursion (λ (d : Doc). owner d.name ≡ Some key) doc
 abbrev pub HaveOwnNames : List Doc → Type 0
 HaveOwnNames docs = IsDistinct bytes_eq (map (λ (d : Doc). d.name) docs)
 
+-- whether the entry's publish stands at this number and place
 abbrev pub has_origin : ℕ → ℕ → Entry → Bool
 has_origin number place e = (e.details.origin_number == number) && (e.details.origin_place == place)
 
@@ -28,6 +29,7 @@ abbrev pub IsOfEntry : List Entry → Body → Type 0
 IsOfEntry es (Made bytes) = Unit {0}
 IsOfEntry es (FromPublish number place nuspec) = list_any (has_origin number place) es ≡ true
 
+-- each of the documents is such
 abbrev pub AreOfEntries : List Entry → List Doc → Type 0
 AreOfEntries es docs = AllByRecursion (λ (d : Doc). IsOfEntry es d.body) docs
 

@@ -110,7 +110,7 @@ fn apply<H: Hive>(
     Ok(())
 }
 
-fn is_of(item: &Item, key: &str) -> bool
+pub(crate) fn is_of(item: &Item, key: &str) -> bool
     ensures { result ≡ is_of key.now item.now }
 {
     key == item.id().key.as_str()
