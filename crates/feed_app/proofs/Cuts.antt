@@ -12,7 +12,8 @@ use Rattle.std.proofs.lemmas.List.Quantifiers.{position-Some}
 use Rattle.std.proofs.lemmas.Str.{IsUtf8-from_ascii}
 use Rattle.std.proofs.lemmas.Str.Parse.{digit_from_value}
 use Rattle.feed_app.specs.Body.{IsRecord}
-use Rattle.feed_app.specs.Cuts.{IsFree, joined, three}
+use Rattle.feed_app.specs.Cuts.{joined, three}
+use Rattle.feed_paths.specs.Cuts.{IsFree}
 use Rattle.feed_app.specs.declared.cut.Three.{Three}
 
 -- where the mark stands first

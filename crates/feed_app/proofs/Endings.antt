@@ -7,7 +7,7 @@ use Rattle.blob_store.specs.Runs.{after_calls, IsAfterSome}
 use Rattle.pkg_meta.specs.Catalog.{Catalog}
 use Rattle.pkg_meta.specs.Lawful.{newest}
 use Rattle.pkg_meta.specs.declared.meta.Meta.{Meta}
-use Rattle.catalog_core.specs.CatDocs.{all_rows}
+use Rattle.catalog_doc.specs.CatDocs.{all_rows}
 use Rattle.catalog_core.specs.Commits.{commit_puts, made}
 use Rattle.catalog_core.specs.Opened.{IsFound}
 use Rattle.catalog_core.specs.Verdicts.{IsRefusal, answer_for, refusal, verdict}

@@ -1,27 +1,25 @@
 -- What a committed publish leaves.
-use Rattle.std.proofs.Common.{◌≡◌, ◌≤◌, ◌<◌, ◌+◌, ◌-◌, ℕ, suc, List, [], ◌∷◌, ◌++◌, length, Some, refl, sym, ◌∙◌, ap, subst, arith, append-nil, length-append, lit<}
+use Rattle.std.proofs.Common.{◌≡◌, ◌≤◌, ◌<◌, ◌-◌, ℕ, List, [], ◌∷◌, ◌++◌, length, Some, refl, sym, ◌∙◌, ap, subst, arith, append-nil}
 use Rattle.std.specs.Prelude.{Ok}
 use Rattle.std.specs.FinMap.{get}
 use Rattle.std.specs.Fmt.{decimal}
-use Rattle.nuget_version.specs.Parts.{numbers_of}
 use Rattle.nuget_version.specs.Printed.{normal_text}
 use Rattle.nuget_version.specs.declared.version.Version.{Version}
 use Rattle.blob_store.specs.Area.{Area}
-use Rattle.blob_store.specs.Runs.{after_calls, stands_after}
-use Rattle.blob_store.specs.declared.call.Call.{Call}
+use Rattle.blob_store.specs.Runs.{after_calls}
 use Rattle.blob_store.proofs.Fronts.{get_after, get_last, stands_after-append}
 use Rattle.pkg_meta.specs.Catalog.{Catalog, Stored}
 use Rattle.pkg_meta.specs.declared.meta.Meta.{Meta}
-use Rattle.catalog_core.specs.CatDocs.{all_rows, doc_at, page_room, pages_of}
+use Rattle.catalog_doc.specs.CatDocs.{all_rows, doc_at, page_room, pages_of}
 use Rattle.catalog_core.specs.Commits.{commit_puts, index_put, page_put, place_puts}
-use Rattle.catalog_core.specs.Names.{index_name, page_name}
+use Rattle.catalog_doc.specs.Names.{index_name, page_name}
 use Rattle.catalog_core.specs.Opened.{Holds, IsFound}
 use Rattle.catalog_core.specs.Plain.{IsBareMeta, IsPlain}
 use Rattle.catalog_core.specs.Verdicts.{verdict}
-use Rattle.catalog_core.proofs.DocNames.{page_name-not_index}
+use Rattle.catalog_doc.proofs.DocNames.{page_name-not_index}
 use Rattle.catalog_core.proofs.Grown.{plain_grows}
-use Rattle.catalog_core.proofs.NewDocs.{page_put-document}
-use Rattle.catalog_core.proofs.OnePage.{its_page}
+use Rattle.catalog_core.proofs.AllPuts.{page_put-document}
+use Rattle.catalog_doc.proofs.OnePage.{its_page}
 use Rattle.catalog_core.proofs.Plains.{rows_of_plain}
 use Rattle.feed_app.specs.Body.{IsBare, IsPublishOf, triple}
 use Rattle.feed_app.specs.Cuts.{IsPlain as IsPlainVersion}

@@ -1,8 +1,14 @@
+pub mod Built
 pub mod Causes
 pub mod Cuts
 pub mod Endings
+pub mod Faults
 pub mod Founds
 pub mod Names
 pub mod Plain
+pub mod Readings
+pub mod Rounds
+pub mod Serves
 pub mod Single
 pub mod Stops
+pub mod Wholes

@@ -1,5 +1,5 @@
 -- Versions of three numbers alone, and ids.
-use Rattle.std.proofs.Common.{◌≡◌, ℕ, List, ◌∷◌, ◌++◌, true, not, arith, append-nil, refl, sym, ◌∙◌, subst, Some, None, Option, IfNone, IsUtf8, codes, zero, suc, lit<}
+use Rattle.std.proofs.Common.{◌≡◌, ℕ, List, ◌∷◌, ◌++◌, true, not, arith, append-nil, refl, sym, ◌∙◌, subst, IsUtf8, codes, zero, suc, lit<}
 use Rattle.std.proofs.lemmas.Str.{IsUtf8-append, IsUtf8-from_ascii}
 use Rattle.std.proofs.lemmas.Str.Ascii.{IsAscii-nil}
 use Rattle.std.specs.Str.{IsAscii}
@@ -16,7 +16,8 @@ use Rattle.package_id.specs.Ids.{IsId, is_bare_byte}
 use Rattle.package_id.proofs.Bytes.{list_all_weaker, list_all-bare}
 use Rattle.feed_app.proofs.Cuts.{utf8_decimal}
 use Rattle.feed_app.specs.Body.{triple}
-use Rattle.feed_app.specs.Cuts.{IsBareVersion, IsFree, IsPlain}
+use Rattle.feed_app.specs.Cuts.{IsBareVersion, IsPlain}
+use Rattle.feed_paths.specs.Cuts.{IsFree}
 
 -- the full form of a version of three numbers alone
 pub full_plain : (v : Version) → IsPlain v → full_text v ≡ triple v.major v.minor v.patch
@@ -53,7 +54,3 @@ utf8_triple v =
     let minor = utf8_decimal v.minor (omega (arith, v.minor_fits)) in
     let patch = utf8_decimal v.patch (omega (arith, v.patch_fits)) in
     IsUtf8-append (decimal v.major) _ major (IsUtf8-append (codes ".") _ dot_text (IsUtf8-append (decimal v.minor) _ minor (IsUtf8-append (codes ".") (decimal v.patch) dot_text patch)))
-
-pub if_none : {A : Type 0} (o : Option A) (P : Type 0) → P → IfNone o P
-if_none None P h = h
-if_none (Some x) P h = tt

@@ -11,16 +11,16 @@ use Rattle.blob_store.proofs.Fronts.{after_calls-append, front_alone, front_of_a
 use Rattle.pkg_meta.specs.Catalog.{Catalog, Staged, Stored}
 use Rattle.pkg_meta.specs.declared.item.Item.{Item}
 use Rattle.pkg_meta.specs.declared.meta.Meta.{Meta}
-use Rattle.catalog_core.specs.CatDocs.{all_rows, doc_at, pages_of}
-use Rattle.catalog_core.specs.Commits.{commit_puts, index_put, last_page, page_put, place_puts, staged_puts}
-use Rattle.catalog_core.specs.Documents.{leaf_text, page_text}
-use Rattle.catalog_core.specs.Names.{index_name, leaf_name, nupkg_name, nuspec_name, page_name}
+use Rattle.catalog_doc.specs.CatDocs.{all_rows, doc_at, last_page, pages_of}
+use Rattle.catalog_core.specs.Commits.{commit_puts, index_put, page_put, place_puts, staged_puts}
+use Rattle.catalog_doc.specs.Documents.{leaf_text, page_text}
+use Rattle.catalog_doc.specs.Names.{index_name, leaf_name, nupkg_name, nuspec_name, page_name}
 use Rattle.catalog_core.specs.Opened.{Holds, IsFound}
 use Rattle.catalog_core.specs.Plain.{IsPlain}
 use Rattle.catalog_core.specs.Verdicts.{verdict}
-use Rattle.catalog_core.proofs.DocNames.{page_name-not_index}
+use Rattle.catalog_doc.proofs.DocNames.{page_name-not_index}
 use Rattle.catalog_core.proofs.Grown.{plain_grows}
-use Rattle.catalog_core.proofs.NewDocs.{page_put-document}
+use Rattle.catalog_core.proofs.AllPuts.{page_put-document}
 use Rattle.catalog_core.proofs.Plains.{rows_of_plain}
 use Rattle.feed_app.specs.Body.{IsPublishOf}
 use Rattle.feed_app.specs.Fronts.{HoldsOneOf, IsBehind}

@@ -26,5 +26,6 @@ pub record IsRecord (body : List ℕ) (meta nuspec nupkg : List ℕ) : Type 0 wh
 abbrev pub IsPublishOf : List ℕ → Meta → List ℕ → List ℕ → Type 0
 IsPublishOf body m nuspec nupkg = (bytes : List ℕ) × IsBare bytes m × IsRecord body bytes nuspec nupkg
 
+-- the body of some publish
 abbrev pub IsPublishBody : List ℕ → Type 0
 IsPublishBody body = (m : Meta) × (nuspec : List ℕ) × (nupkg : List ℕ) × IsPublishOf body m nuspec nupkg

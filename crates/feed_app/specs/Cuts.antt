@@ -1,14 +1,10 @@
 -- The pieces that a publish's body is cut into.
-use Rattle.std.specs.Prelude.{◌≡◌, ◌==◌, ℕ, List, [], ◌∷◌, ◌++◌, ◌<◌, ◌^◌, length, codes, decimal, not, IsTrue}
-use Rattle.std.specs.List.{list_all}
+use Rattle.std.specs.Prelude.{◌≡◌, ℕ, List, [], ◌∷◌, ◌++◌, ◌<◌, ◌^◌, length, codes, decimal}
 use Rattle.nuget_version.specs.declared.version.Version.{Version}
 use Rattle.feed_app.specs.Body.{triple}
 use Rattle.feed_app.specs.declared.cut.Three.{Three}
 
--- the mark doesn't stand in the text
-abbrev pub IsFree : ℕ → List ℕ → Type 0
-IsFree mark text = IsTrue (list_all (λ b. not (b == mark)) text)
-
+-- three numbers
 abbrev pub three : ℕ → ℕ → ℕ → Three
 three a b c = record { first = a; second = b; third = c }
 

@@ -3,8 +3,8 @@ use Rattle.std.specs.Prelude.{◌≡◌, ◌⊎◌, ℕ, List, [], ◌∷◌, �
 use Rattle.std.specs.FinMap.{get}
 use Rattle.blob_store.specs.Area.{Area}
 use Rattle.pkg_meta.specs.Catalog.{Catalog, Stored}
-use Rattle.catalog_core.specs.CatDocs.{doc_at}
-use Rattle.catalog_core.specs.Names.{index_name, page_name}
+use Rattle.catalog_doc.specs.CatDocs.{doc_at}
+use Rattle.catalog_doc.specs.Names.{index_name, page_name}
 use Rattle.catalog_core.specs.Opened.{IsFound}
 
 -- the first page has the commit already, and the index not yet

@@ -3,6 +3,9 @@ pub mod Body
 pub mod Committed
 pub mod Cuts
 pub mod Fronts
+pub mod Gets
+pub mod Jobs
 pub mod Lines
+pub mod Names
 pub mod Reasons
 pub mod Words

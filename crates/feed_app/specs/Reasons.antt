@@ -5,13 +5,14 @@ use Rattle.std.specs.Prelude.{◌≡◌, ◌⊎◌, ◌<◌, ◌≤◌, ℕ, Lis
 use Rattle.std.specs.declared.alloc.Global.{Global}
 use Rattle.std.specs.FinMap.{get}
 use Rattle.feed_base.specs.Clock.{Tells}
+use Rattle.feed_base.specs.Counts.{HasRisen}
 use Rattle.blob_store.specs.Area.{Area, with_blob}
 use Rattle.blob_store.specs.Runs.{after_calls, IsAfterSome}
 use Rattle.pkg_meta.specs.Catalog.{Catalog, Stored}
 use Rattle.pkg_meta.specs.declared.meta.Meta.{Meta}
 use Rattle.catalog_core.specs.Commits.{commit_puts, made}
-use Rattle.catalog_core.specs.Documents.{index_text}
-use Rattle.catalog_core.specs.Names.{index_name}
+use Rattle.catalog_doc.specs.Documents.{index_text}
+use Rattle.catalog_doc.specs.Names.{index_name}
 use Rattle.catalog_core.specs.Opened.{Holds, HoldsPlain, IsFound}
 use Rattle.catalog_core.specs.Plain.{IsPlain}
 use Rattle.catalog_core.specs.Verdicts.{verdict}
@@ -20,8 +21,10 @@ use Rattle.catalog_core.specs.declared.change.Change.TheVariants.{Publish}
 use Rattle.catalog_core.specs.declared.error.CommitErr.{CommitErr}
 use Rattle.catalog_core.specs.declared.error.CommitErr.TheVariants as commit
 use Rattle.feed_app.specs.Body.{IsPublishBody, IsPublishOf}
-use Rattle.feed_app.specs.Lines.{line_of, status_of}
-use Rattle.feed_app.specs.Words.{HasMeaning, IsInit, IsPublish}
+use Rattle.feed_app.specs.Gets.{Gets}
+use Rattle.feed_app.specs.Jobs.{Jobs}
+use Rattle.feed_app.specs.Lines.{text_of, status_of}
+use Rattle.feed_app.specs.Words.{HasMeaning, IsGet, IsInit, IsJob, IsPublish}
 use Rattle.feed_app.specs.declared.answer.Answer.{Answer}
 use Rattle.feed_app.specs.declared.answer.Answer.TheVariants.{Initialised, AlreadyInitialised, Committed, Usage, FaultInput, TooLong, UnsupportedBody, UnsupportedCatalog, Uninitialised, Exists, ClockEnd, FaultCatalog, Memory}
 
@@ -63,12 +66,7 @@ Ends (Exists place number) m nuspec nupkg risen old new told then = IsRefused (c
 Ends ClockEnd m nuspec nupkg risen old new told then = IsRefused commit.ClockEnd m nuspec nupkg old new told then
 Ends FaultCatalog m nuspec nupkg risen old new told then = risen × IsBegun m nuspec nupkg old new
 Ends Memory m nuspec nupkg risen old new told then = IsBegun m nuspec nupkg old new
-Ends Initialised m nuspec nupkg risen old new told then = ⊥
-Ends AlreadyInitialised m nuspec nupkg risen old new told then = ⊥
-Ends Usage m nuspec nupkg risen old new told then = ⊥
-Ends FaultInput m nuspec nupkg risen old new told then = ⊥
-Ends TooLong m nuspec nupkg risen old new told then = ⊥
-Ends UnsupportedBody m nuspec nupkg risen old new told then = ⊥
+Ends _ m nuspec nupkg risen old new told then = ⊥
 
 -- the area holds a catalog of bare publishes, and each publish that the body spells may follow it at every moment
 abbrev pub CanTake : Area → List ℕ → Type 0
@@ -81,15 +79,7 @@ NotTaken FaultInput rest risen = risen
 NotTaken TooLong rest risen = IfSome rest (λ body. most_input < length body)
 NotTaken UnsupportedBody rest risen = IfSome rest (λ body. (length body ≤ most_input) × (IsPublishBody body → ⊥))
 NotTaken Memory rest risen = Unit {0}
-NotTaken (Committed number stamp) rest risen = ⊥
-NotTaken Initialised rest risen = ⊥
-NotTaken AlreadyInitialised rest risen = ⊥
-NotTaken Usage rest risen = ⊥
-NotTaken Uninitialised rest risen = ⊥
-NotTaken UnsupportedCatalog rest risen = ⊥
-NotTaken (Exists place number) rest risen = ⊥
-NotTaken ClockEnd rest risen = ⊥
-NotTaken FaultCatalog rest risen = ⊥
+NotTaken _ rest risen = ⊥
 
 -- the input is a publish of this metadata, manifest and package
 abbrev pub IsTaken : Option (List ℕ) → Meta → List ℕ → List ℕ → Type 0
@@ -112,28 +102,22 @@ Inits Initialised base risen old new = IfSome old (λ area. IsMade base area new
 Inits AlreadyInitialised base risen old new = IfSome old (λ area. IsSome (get area index_name)) × (new ≡ old)
 Inits FaultCatalog base risen old new = risen × IfSome old (λ area. (new ≡ Some area) ⊎ IsMade base area new)
 Inits Memory base risen old new = IfSome old (λ area. (new ≡ Some area) ⊎ IsMade base area new)
-Inits (Committed number stamp) base risen old new = ⊥
-Inits Usage base risen old new = ⊥
-Inits FaultInput base risen old new = ⊥
-Inits TooLong base risen old new = ⊥
-Inits UnsupportedBody base risen old new = ⊥
-Inits UnsupportedCatalog base risen old new = ⊥
-Inits Uninitialised base risen old new = ⊥
-Inits (Exists place number) base risen old new = ⊥
-Inits ClockEnd base risen old new = ⊥
+Inits _ base risen old new = ⊥
 
--- Why an answer came: Usage exactly where the words have no meaning, and then nothing was asked; `init` asks the catalog's
--- area alone.
-abbrev pub Why : Answer → List (String Global) → Option (List ℕ) → Type 0 → Type 0 → Type 0 → Option Area → Option Area → Option (List ℕ) → Option (List ℕ) → Type 0
-Why answer words rest input_risen risen untouched old new told then =
-    ((answer ≡ Usage) × (HasMeaning words → ⊥) × untouched × (then ≡ told))
-    ⊎ ((IsPublish words × Acts answer rest input_risen risen untouched old new told then)
-    ⊎ ((base : List ℕ) × IsInit words base × Inits answer base risen old new × (then ≡ told)))
+-- Why an answer came: Usage exactly where the words have no meaning, and then nothing was asked. `init` asks the catalog's
+-- area alone, `get` and `job` it and the content's.
+abbrev pub Why : {B : Type 0} → (B → Option Area) → (B → ℕ) → Answer → List (String Global) → Option (List ℕ) → Type 0 → B → B → B → B → Option (List ℕ) → Option (List ℕ) → Type 0
+Why held faults answer words rest input_risen old new content content_new told then =
+    ((answer ≡ Usage) × (HasMeaning words → ⊥) × (new ≡ old) × (content_new ≡ content) × (then ≡ told))
+    ⊎ ((IsPublish words × (content_new ≡ content) × Acts answer rest input_risen (HasRisen (faults old) (faults new)) (new ≡ old) (held old) (held new) told then)
+    ⊎ (((base : List ℕ) × IsInit words base × (content_new ≡ content) × Inits answer base (HasRisen (faults old) (faults new)) (held old) (held new) × (then ≡ told))
+    ⊎ (((path : List ℕ) × IsGet words path × Gets held faults answer path old new content content_new × (then ≡ told))
+    ⊎ (IsJob words × Jobs held faults answer old new content content_new × (then ≡ told)))))
 
--- what went out for an answer, and the status: its line and its status; nothing, for want of memory; a front of the
--- line, where the write failed
+-- what went out for an answer, and the status: its text and its status; nothing, for want of memory; a front of the
+-- text, where the write failed
 abbrev pub IsTold : Answer → ℕ → Type 0 → Option (List ℕ) → Option (List ℕ) → Type 0
 IsTold answer status risen old new =
-    ((status ≡ status_of answer) × (new ≡ option_map (λ out. out ++ line_of answer) old))
+    ((status ≡ status_of answer) × (new ≡ option_map (λ out. out ++ text_of answer) old))
     ⊎ (((status ≡ 8) × (new ≡ old))
-    ⊎ ((status ≡ 5) × risen × ((k : ℕ) × (k ≤ length (line_of answer)) × (new ≡ option_map (λ out. out ++ take k (line_of answer)) old))))
+    ⊎ ((status ≡ 5) × risen × ((k : ℕ) × (k ≤ length (text_of answer)) × (new ≡ option_map (λ out. out ++ take k (text_of answer)) old))))

@@ -3,7 +3,7 @@ ghost use Rattle.std.specs.Prelude.{◌≡◌, ◌↔◌, ℕ, List, IsTrue, IfS
 ghost use Rattle.std.specs.List.{list_all};
 ghost use Rattle.std.specs.Char.{is_ascii_lowercase};
 ghost use Rattle.feed_app.specs.Bases.{IsBase, IsName, address};
-ghost use Rattle.feed_app.specs.Cuts.{IsFree};
+ghost use Rattle.feed_paths.specs.Cuts.{IsFree};
 
 use crate::cut::{Sides, before, behind, cut};
 

@@ -2,7 +2,8 @@
 ghost use Rattle.std.specs.Prelude.{◌≡◌, ◌==◌, ◌∷◌, ◌++◌, ◌<◌, ◌^◌, ◌↔◌, ℕ, List, IsTrue, IfOk, IfSome, IfNone, MatchOption, IsUtf8, decimal};
 ghost use Rattle.std.specs.List.{position};
 ghost use Rattle.feed_app.specs.Body.{IsRecord};
-ghost use Rattle.feed_app.specs.Cuts.{AreParts, HaveLengths, IsFree, IsHeader, joined, three};
+ghost use Rattle.feed_app.specs.Cuts.{AreParts, HaveLengths, IsHeader, joined, three};
+ghost use Rattle.feed_paths.specs.Cuts.{IsFree};
 ghost use Rattle.feed_app.specs.declared.cut.Three.{Three};
 
 use pkg_meta::NoMemory;

@@ -1,15 +1,15 @@
 // Reading bare metadata.
-ghost use Rattle.std.specs.Prelude.{◌≡◌, ◌≢◌, ◌∷◌, ◌++◌, ◌<◌, ◌≤◌, ◌^◌, ◌↔◌, ℕ, List, [], IsTrue, IfOk, IfSome, IfNone, IsNone, MatchOption, string_bytes};
+ghost use Rattle.std.specs.Prelude.{◌≡◌, ◌∷◌, ◌++◌, ◌<◌, ◌≤◌, ◌^◌, ◌↔◌, ℕ, List, [], IsTrue, IfOk, IfSome, IfNone, MatchOption, string_bytes};
 ghost use Rattle.feed_app.specs.Body.{IsBare, triple};
-ghost use Rattle.feed_app.specs.Cuts.{IsFree, IsBareVersion, IsPlain, bare, three};
-ghost use Rattle.nuget_version.specs.Grammar.{Spells};
+ghost use Rattle.feed_app.specs.Cuts.{IsBareVersion, IsPlain, bare, three};
+ghost use Rattle.feed_paths.specs.Cuts.{IsFree};
 ghost use Rattle.package_id.specs.Ids.{IsShortId};
 ghost use Rattle.nuget_version.specs.declared.version.Version.{Version};
 ghost use Rattle.feed_app.specs.declared.cut.Three.{Three};
 ghost use Rattle.pkg_meta.specs.declared.meta.Meta.{Meta};
 
 use crate::cut::{Three, before, behind, cut, text_of};
-use nuget_version::VersionErr;
+use feed_paths::parse_version;
 use package_id::IdErr;
 use pkg_meta::{Meta, NoMemory, PackageId, Text, Version};
 use std::alloc::Global;
@@ -70,27 +70,6 @@ fn is_plain(version: &Version) -> bool
     version.revision == 0
         && version.labels.as_bytes().is_empty()
         && version.meta.as_bytes().is_empty()
-}
-
-// The version that a text spells.
-fn parse_version(alloc: Global, text: &str) -> Result<Option<Version>, NoMemory>
-    ensures found { IfOk result (λ o. IfSome o (λ v. Spells text.now v)) }
-    ensures none { IfOk result (λ o. IfNone o ((v : Version) → Spells text.now v → ⊥)) }
-{
-    match Version::parse(alloc, text) {
-        Ok(version) => Ok(Some(version)),
-        Err(error) => refused(error),
-    }
-}
-
-// No version, unless memory was wanted.
-fn refused(error: VersionErr) -> Result<Option<Version>, NoMemory>
-    ensures { IfOk result (λ o. (error ≢ VersionErr.Memory) × IsNone o) }
-{
-    match error {
-        VersionErr::Memory => Err(NoMemory),
-        _ => Ok(None),
-    }
 }
 
 fn print_triple(alloc: Global, three: Three) -> Result<Text, NoMemory>

@@ -184,20 +184,40 @@ fn answers_with_status_and_line(rt: HostRuntime) -> Result<(), Fail> {
     Ok(())
 }
 
-// What a publish of this body is told on these stores, at this tick, and what it leaves of the stores.
+// What a command of these words is told on these stores, with this body, at this tick, and what it leaves of the stores.
+fn run(
+    alloc: Global,
+    stores: Stores<MemBlobs>,
+    words: &[&str],
+    body: &str,
+    tick: u64,
+) -> Result<(u8, SinkMem, Stores<MemBlobs>), NoMemory> {
+    let words = words_of(alloc, words)?;
+    let body = Bytes::copy_of(alloc, body.as_bytes())?;
+    let mut input = SourceMem::of(alloc, body, &[])?;
+    let mut output = SinkMem::new(alloc, 2000, &[])?;
+    let mut clock = ClockList::of(alloc, &[tick.min(LAST)])?;
+    let (status, stores) = run_command(alloc, &words, stores, &mut input, &mut output, &mut clock);
+    Ok((status.number, output, stores))
+}
+
+// The same of a publish.
 fn publish(
     alloc: Global,
     stores: Stores<MemBlobs>,
     body: &str,
     tick: u64,
 ) -> Result<(u8, SinkMem, Stores<MemBlobs>), NoMemory> {
-    let words = words_of(alloc, &["publish"])?;
-    let body = Bytes::copy_of(alloc, body.as_bytes())?;
-    let mut input = SourceMem::of(alloc, body, &[])?;
-    let mut output = SinkMem::new(alloc, 200, &[])?;
-    let mut clock = ClockList::of(alloc, &[tick.min(LAST)])?;
-    let (status, stores) = run_command(alloc, &words, stores, &mut input, &mut output, &mut clock);
-    Ok((status.number, output, stores))
+    run(alloc, stores, &["publish"], body, tick)
+}
+
+// The same of a `get`.
+fn get(
+    alloc: Global,
+    stores: Stores<MemBlobs>,
+    path: &str,
+) -> Result<(u8, SinkMem, Stores<MemBlobs>), NoMemory> {
+    run(alloc, stores, &["get", path], "", NEW_YEAR)
 }
 
 // What the first publish answers when it is tried again, by how many of its puts took effect.
@@ -419,14 +439,214 @@ fn a_catalog_is_made_once(rt: HostRuntime) -> Result<(), Fail> {
         ("http://f.test/", 0, "initialised\n"),
         ("http://f.test/", 3, "refused initialised\n"),
     ] {
-        let words = words_of(alloc, &["init", base])?;
-        let mut input = SourceMem::of(alloc, Bytes::copy_of(alloc, b"")?, &[])?;
-        let mut output = SinkMem::new(alloc, 200, &[])?;
-        let mut clock = ClockList::of(alloc, &[NEW_YEAR])?;
-        let (told, left) = run_command(alloc, &words, stores, &mut input, &mut output, &mut clock);
-        assert_eq!(rt; told.number, status);
+        let (told, output, left) = run(alloc, stores, &["init", base], "", NEW_YEAR)?;
+        assert_eq!(rt; told, status);
         assert_eq!(rt; output.bytes(), line.as_bytes());
         stores = left;
+    }
+    Ok(())
+}
+
+const VERSIONS: &str = "{\"versions\":[\"1.0.0\"]}";
+
+const MISSING: &str = "refused missing\n";
+
+// The stores behind the first publish.
+fn published(
+    alloc: Global,
+    fails: &[Fault],
+    content_fails: &[Fault],
+) -> Result<Stores<MemBlobs>, NoMemory> {
+    let begun = stores(alloc, fails, true)?;
+    let (_, _, mut stores) = publish(alloc, begun, FOO, NEW_YEAR)?;
+    stores.content = MemBlobs::failing(alloc, content_fails)?;
+    Ok(stores)
+}
+
+// What a job of this hive is told on these stores, and what it leaves of the stores.
+fn job(
+    alloc: Global,
+    stores: Stores<MemBlobs>,
+    hive: &str,
+) -> Result<(u8, SinkMem, Stores<MemBlobs>), NoMemory> {
+    run(alloc, stores, &["job", hive], "", NEW_YEAR)
+}
+
+// The stores behind the first publish and the job.
+fn built(alloc: Global, content_fails: &[Fault]) -> Result<Stores<MemBlobs>, NoMemory> {
+    let published = published(alloc, &[], content_fails)?;
+    let (_, _, stores) = job(alloc, published, "content")?;
+    Ok(stores)
+}
+
+#[test]
+fn a_get_writes_the_document_alone(rt: HostRuntime) -> Result<(), Fail> {
+    let alloc = rt.alloc();
+    let unsupported = "refused unsupported\n";
+    let mut stores = built(alloc, &[])?;
+    for (path, status, text) in [
+        ("/v3/catalog/index.json", 0, INDEX),
+        ("/v3/catalog/page0.json?a=b", 0, PAGE),
+        ("/v3/catalog/data/1/0.json", 0, LEAF),
+        ("/v3/catalog/page1.json", 3, MISSING),
+        ("/v3/catalog/data/1/1.json", 3, MISSING),
+        ("/v3/catalog/data/2/0.json", 3, MISSING),
+        ("/v3/catalog/staged/1/0.nupkg", 3, MISSING),
+        ("/v3/flat/foo/index.json", 0, VERSIONS),
+        ("/v3/flat/Foo/index.json", 3, MISSING),
+        ("/v3/flat/bar/index.json", 3, MISSING),
+        ("/v3/flat/foo/1.0.0/foo.nuspec", 0, "<package/>"),
+        ("/v3/flat/foo/1.0.0/foo.1.0.0.nupkg", 0, "abc"),
+        ("/v3/flat/foo/1.0.1/foo.nuspec", 3, MISSING),
+        ("/v3/index.json", 3, unsupported),
+        ("/v3/registration/foo/index.json", 3, unsupported),
+        ("index.json", 3, MISSING),
+    ] {
+        let (told, output, left) = get(alloc, stores, path)?;
+        assert_eq!(rt; told, status, "{path}");
+        assert_eq!(rt; output.bytes(), text.as_bytes(), "{path}");
+        stores = left;
+    }
+    Ok(())
+}
+
+#[test]
+fn a_get_opens_the_catalog_first(rt: HostRuntime) -> Result<(), Fail> {
+    let alloc = rt.alloc();
+    for (lost, path, status, line) in [
+        (
+            "index.json",
+            "/v3/flat/foo/index.json",
+            3,
+            "refused uninitialised\n",
+        ),
+        ("index.json", "/v3/index.json", 3, "refused uninitialised\n"),
+        ("index.json", "", 3, "refused uninitialised\n"),
+        (
+            "page0.json",
+            "/v3/catalog/page0.json",
+            3,
+            "refused unsupported\n",
+        ),
+        (
+            "page0.json",
+            "/v3/flat/foo/index.json",
+            3,
+            "refused unsupported\n",
+        ),
+        (
+            "data/1/0.json",
+            "/v3/catalog/data/1/0.json",
+            6,
+            "damaged catalog/data/1/0.json\n",
+        ),
+        ("data/1/0.json", "/v3/flat/foo/index.json", 0, VERSIONS),
+    ] {
+        let mut stores = built(alloc, &[])?;
+        assert_eq!(rt; stores.catalog.delete(alloc, lost), Ok(()));
+        let (told, output, _) = get(alloc, stores, path)?;
+        assert_eq!(rt; told, status, "{lost}, {path}");
+        assert_eq!(rt; output.bytes(), line.as_bytes(), "{lost}, {path}");
+    }
+    Ok(())
+}
+
+#[test]
+fn a_get_tells_which_store_failed(rt: HostRuntime) -> Result<(), Fail> {
+    let alloc = rt.alloc();
+    // Two calls make the catalog, seven publish, two open it, and one gets the leaf.
+    for (call, status, text) in [
+        (10, 4, "fault catalog\n"),
+        (11, 4, "fault catalog\n"),
+        (12, 4, "fault catalog\n"),
+        (13, 0, LEAF),
+    ] {
+        let stores = published(alloc, &[Fault { call, took: false }], &[])?;
+        let (told, output, _) = get(alloc, stores, "/v3/catalog/data/1/0.json")?;
+        assert_eq!(rt; told, status, "{call}");
+        assert_eq!(rt; output.bytes(), text.as_bytes(), "{call}");
+    }
+    // The job makes five calls of the content's store.
+    let stores = built(
+        alloc,
+        &[Fault {
+            call: 6,
+            took: false,
+        }],
+    )?;
+    let (told, output, _) = get(alloc, stores, "/v3/flat/foo/index.json")?;
+    assert_eq!(rt; told, 4);
+    assert_eq!(rt; output.bytes(), "fault content\n".as_bytes());
+    Ok(())
+}
+
+#[test]
+fn a_job_builds_the_content_hive_once(rt: HostRuntime) -> Result<(), Fail> {
+    let alloc = rt.alloc();
+    let mut left = stores(alloc, &[], false)?;
+    for (words, body, status, line) in [
+        (["job", "content"], "", 3, "refused uninitialised\n"),
+        (["init", "http://f.test/"], "", 0, "initialised\n"),
+        (["job", "content"], "", 0, "idle content 0\n"),
+        (["job", "plain"], "", 2, USAGE),
+    ] {
+        let (told, output, stores) = run(alloc, left, &words, body, NEW_YEAR)?;
+        assert_eq!(rt; told, status);
+        assert_eq!(rt; output.bytes(), line.as_bytes());
+        left = stores;
+    }
+    let (_, _, mut left) = publish(alloc, left, FOO, NEW_YEAR)?;
+    for (status, line) in [(0, "done content 1\n"), (3, "refused unsupported\n")] {
+        let (told, output, stores) = job(alloc, left, "content")?;
+        assert_eq!(rt; told, status);
+        assert_eq!(rt; output.bytes(), line.as_bytes());
+        left = stores;
+    }
+    Ok(())
+}
+
+#[test]
+fn a_job_tells_what_is_damaged(rt: HostRuntime) -> Result<(), Fail> {
+    let alloc = rt.alloc();
+    for (lost, line) in [
+        ("data/1/0.json", "damaged catalog/data/1/0.json\n"),
+        ("staged/1/0.nupkg", "damaged catalog/staged/1/0.nupkg\n"),
+        ("staged/1/0.nuspec", "damaged catalog/staged/1/0.nuspec\n"),
+    ] {
+        let mut stores = published(alloc, &[], &[])?;
+        assert_eq!(rt; stores.catalog.delete(alloc, lost), Ok(()));
+        let (told, output, mut stores) = job(alloc, stores, "content")?;
+        assert_eq!(rt; told, 6, "{lost}");
+        assert_eq!(rt; output.bytes(), line.as_bytes(), "{lost}");
+        let cursor = matches!(stores.content.get(alloc, "cursor.json"), Ok(Some(_)));
+        assert!(rt; !cursor, "{lost}");
+    }
+    Ok(())
+}
+
+#[test]
+fn a_job_tells_which_store_failed(rt: HostRuntime) -> Result<(), Fail> {
+    let alloc = rt.alloc();
+    // Nine calls come before the job, two open the catalog, and three read the leaf and what the publish brought. The job
+    // gets the cursor, puts three documents and then the cursor.
+    for call in 1..15u64 {
+        let fault = Fault { call, took: false };
+        let catalog_fails = call > 9;
+        let stores = if catalog_fails {
+            published(alloc, &[fault], &[])?
+        } else {
+            published(alloc, &[], &[fault])?
+        };
+        let (status, line) = if catalog_fails {
+            (4, "fault catalog\n")
+        } else if call < 6 {
+            (4, "fault content\n")
+        } else {
+            (0, "done content 1\n")
+        };
+        let (told, output, _) = job(alloc, stores, "content")?;
+        assert_eq!(rt; told, status, "{call}");
+        assert_eq!(rt; output.bytes(), line.as_bytes(), "{call}");
     }
     Ok(())
 }

@@ -1,6 +1,7 @@
 use Rattle.std.proofs.Common.{◌≡◌, ◌++◌, ◌∙◌, List, ℕ, length, ap, sym}
 use Rattle.feed_app.specs.Body.{IsRecord}
-use Rattle.feed_app.specs.Cuts.{IsFree, IsHeader, joined, three}
+use Rattle.feed_app.specs.Cuts.{IsHeader, joined, three}
+use Rattle.feed_paths.specs.Cuts.{IsFree}
 use Rattle.feed_app.specs.declared.cut.Three.{Three}
 use Rattle.feed_app.proofs.Cuts.{free_joined, none_some, record_line, some_same}
 use Rattle.feed_app.proofs.cut.cut_record.Goals as goal

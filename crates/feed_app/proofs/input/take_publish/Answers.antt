@@ -1,6 +1,5 @@
 use Rattle.std.proofs.Common.{◌≡◌, ◌∙◌, ◌≤◌, ℕ, List, length, sym, subst}
-use Rattle.feed_base.proofs.Options.{weaker}
-use Rattle.catalog_core.proofs.Openings.{at_none}
+use Rattle.feed_base.proofs.Options.{at_none, weaker}
 use Rattle.feed_app.specs.Body.{IsPublishBody}
 use Rattle.feed_app.specs.Reasons.{most_input}
 use Rattle.feed_app.proofs.input.take_publish.Goals as goal

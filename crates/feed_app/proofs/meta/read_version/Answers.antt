@@ -1,8 +1,7 @@
 use Rattle.std.proofs.Common.{◌≡◌, ◌∙◌, sym, ap, subst, Bool, true, false, ℕ, List, IsUtf8}
-use Rattle.feed_base.proofs.Options.{at_some}
+use Rattle.feed_base.proofs.Options.{at_none, at_some}
 use Rattle.nuget_version.specs.Grammar.{Spells}
 use Rattle.nuget_version.specs.declared.version.Version.{Version}
-use Rattle.catalog_core.proofs.Openings.{at_none}
 use Rattle.feed_app.specs.Body.{triple}
 use Rattle.feed_app.specs.Cuts.{IsBareVersion, IsPlain}
 use Rattle.feed_app.specs.declared.cut.Three.{Three}

@@ -1,0 +1,14 @@
+use Rattle.std.proofs.Common.{ap, Err}
+use Rattle.feed_app.proofs.Rounds.{idle, stopped}
+use Rattle.feed_app.proofs.job.build.Goals as goal
+
+pub returns-in-Ok-Idle-clause-is : goal.returns-in-Ok-Idle-clause-is
+returns-in-Ok-Idle-clause-is g c = λ cs plain are.
+    let told = rw c.in-Ok-Idle.field-0-is at c.in-Ok-Idle.ensures.idle in
+    (c.in-Ok-Idle.ensures.fresh, rw c.in-Ok-Idle.field-0-is told.0, idle (g.B.Blobs.held c.args.catalog.now.area) c.args.catalog.now.rows cs plain are told.1, told.2)
+
+pub returns-in-Err-clause-is : goal.returns-in-Err-clause-is
+returns-in-Err-clause-is g c = λ cs plain are.
+    stopped c.args.catalog.now.base c.args.catalog.now.rows cs are _ _ (g.B.Blobs.held c.args.catalog.now.area) (g.B.Blobs.held c.args.content.now) (g.B.Blobs.held c.build_once.new.area)
+    c.in-Err.error c.of_round.result c.of_round.ensures (λ e. c.in-Err.ensures.unsupported (ap Err e)) (λ e. c.in-Err.ensures.catalog_fault (ap Err e)) (λ e. c.in-Err.ensures.hive_fault (ap Err e))
+    c.in-Err.ensures.damaged (c.in-Err.ensures.whole cs plain are) (c.in-Err.ensures.some cs plain are)
