@@ -1,6 +1,7 @@
 #!/bin/sh
-# Drives the built program `feed` on a folder of its own: init, publishes, and refusals, each of which has to leave every
-# file as it was. Then it measures puts a second, which passes and fails nothing.
+# Drives the built program `feed` on a folder of its own: init, publishes, the job of the content documents, gets, and
+# refusals, each of which has to leave every file as it was. Then it measures puts a second, which passes and fails
+# nothing.
 #
 # Use: sh checks/folder.sh [PROGRAM]
 # PROGRAM is crates/feed/out/feed unless it is given, where `rt ci` without names and `rt run` leave it.
@@ -61,10 +62,21 @@ does() {
   check "$*"
 }
 
-# holds NAME: the blob of the catalog's area is exactly the file `want`.
+# holds AREA NAME: the blob of this area is exactly the file `want`.
 holds() {
-  cmp -s "$work/want" "$store/catalog/$1"
-  check "$1"
+  cmp -s "$work/want" "$store/$1/$2"
+  check "$1/$2"
+}
+
+# gets PATH: answers exactly the file `want` with status 0, and leaves every file as it was.
+gets() {
+  files >"$work/before"
+  run get "$1"
+  answered 0
+  check "get $1"
+  files >"$work/after"
+  cmp -s "$work/before" "$work/after"
+  check "every file is as it was: get $1"
 }
 
 # refuses WHAT STATUS LINE WORDS..: answers this line with this status, and leaves every file as it was.
@@ -95,11 +107,19 @@ hash=3a81oZNherrMQXNJriBBMRLm+k6JqX6iCp7u5ktV05ohkpkqJ0/BqDa6PCOj/uu9RU1EI2Q86A4
 cp "$work/publish" "$work/input"
 refuses 'a publish before init' 3 'refused uninitialised' publish
 cp "$work/nothing" "$work/input"
+refuses 'a job before init' 3 'refused uninitialised' job content
+refuses 'a get before init' 3 'refused uninitialised' get /v3/catalog/index.json
 
 does initialised init http://f.test/
 printf '%s' '{"@id":"http://f.test/v3/catalog/index.json","commitId":"'$zeros'0","commitTimeStamp":"0001-01-01T00:00:00.0000000Z","count":0,"items":[]}' >"$work/want"
-holds index.json
+holds catalog index.json
 refuses 'a second init' 3 'refused initialised' init http://f.test/
+refuses 'a get before any publish' 3 'refused missing' get /v3/catalog/page0.json
+files >"$work/before"
+does 'idle content 0' job content
+files >"$work/after"
+cmp -s "$work/before" "$work/after"
+check 'a job on no commits puts nothing'
 
 # The clock is the system's, so the stamp has only its form; the documents have to have the one that was printed.
 cp "$work/publish" "$work/input"
@@ -118,18 +138,60 @@ refuses 'a publish cut by one byte' 3 'refused unsupported' publish
 cp "$work/nothing" "$work/input"
 
 printf '%s' 'abc' >"$work/want"
-holds staged/1/0.nupkg
+holds catalog staged/1/0.nupkg
 printf '%s' '<package/>' >"$work/want"
-holds staged/1/0.nuspec
+holds catalog staged/1/0.nuspec
 
 printf '%s' '{"@id":"http://f.test/v3/catalog/data/1/0.json","@type":["PackageDetails"],"catalog:commitId":"'$zeros'1","catalog:commitTimeStamp":"'"$stamp"'","created":"'"$stamp"'","id":"Foo","isPrerelease":false,"listed":true,"origin":"1/0","packageHash":"'$hash'","packageHashAlgorithm":"SHA512","packageSize":3,"published":"'"$stamp"'","verbatimVersion":"1.0.0","version":"1.0.0"}' >"$work/want"
-holds data/1/0.json
+holds catalog data/1/0.json
 printf '%s' '{"@id":"http://f.test/v3/catalog/page0.json","commitId":"'$zeros'1","commitTimeStamp":"'"$stamp"'","count":1,"items":[{"@id":"http://f.test/v3/catalog/data/1/0.json","@type":"nuget:PackageDetails","commitId":"'$zeros'1","commitTimeStamp":"'"$stamp"'","nuget:id":"Foo","nuget:version":"1.0.0"}],"parent":"http://f.test/v3/catalog/index.json"}' >"$work/want"
-holds page0.json
+holds catalog page0.json
 printf '%s' '{"@id":"http://f.test/v3/catalog/index.json","commitId":"'$zeros'1","commitTimeStamp":"'"$stamp"'","count":1,"items":[{"@id":"http://f.test/v3/catalog/page0.json","commitId":"'$zeros'1","commitTimeStamp":"'"$stamp"'","count":1}]}' >"$work/want"
-holds index.json
+holds catalog index.json
+
+# The catalog's documents by their paths.
+for name in index.json page0.json data/1/0.json; do
+  cp "$store/catalog/$name" "$work/want"
+  gets "/v3/catalog/$name"
+done
+refuses 'a get of content before a job' 3 'refused missing' get /v3/flat/foo/index.json
+
+# A job that finds no leaf stops before its first put, and so may be done again.
+mv "$store/catalog/data/1/0.json" "$work/leaf"
+refuses 'a job without a leaf' 6 'damaged catalog/data/1/0.json' job content
+refuses 'a get without a leaf' 6 'damaged catalog/data/1/0.json' get /v3/catalog/data/1/0.json
+mv "$work/leaf" "$store/catalog/data/1/0.json"
+
+# The content documents, built once.
+files >"$work/before"
+does 'done content 1' job content
+files | grep -v ' \./content/' >"$work/after"
+cmp -s "$work/before" "$work/after"
+check 'a job leaves the other areas as they were'
+printf '%s' '{"commitId":"'$zeros'1","commitTimeStamp":"'"$stamp"'"}' >"$work/want"
+holds content cursor.json
+printf '%s' '{"versions":["1.0.0"]}' >"$work/want"
+holds content d/foo/index.json
+gets /v3/flat/foo/index.json
+printf '%s' 'abc' >"$work/want"
+holds content d/foo/1.0.0/foo.1.0.0.nupkg
+gets /v3/flat/foo/1.0.0/foo.1.0.0.nupkg
+printf '%s' '<package/>' >"$work/want"
+holds content d/foo/1.0.0/foo.nuspec
+gets '/v3/flat/foo/1.0.0/foo.nuspec?semVerLevel=2.0.0'
+refuses 'a second job' 3 'refused unsupported' job content
+for path in /v3/index.json /v3/registration/foo/index.json /v3/registration-semver2/foo/1.0.0.json /v3/autocomplete /admin/cursor/content; do
+  refuses 'a get that is not answered yet' 3 'refused unsupported' get "$path"
+done
+for path in /v3/catalog/page1.json /v3/catalog/data/2/0.json /v3/catalog/staged/1/0.nupkg /v3/flat/bar/index.json /v3/flat/Foo/index.json /v3/flat/foo/1.0.0/bar.nuspec /v3/flat/../catalog/index.json /admin/stop v3/catalog/index.json; do
+  refuses 'a get of nothing' 3 'refused missing' get "$path"
+done
 
 refuses 'no word that is known' 2 "$usage" dance
+refuses 'a job of no hive' 2 "$usage" job red
+refuses 'a job without a hive' 2 "$usage" job
+refuses 'a get without a path' 2 "$usage" get
+refuses 'a get of two paths' 2 "$usage" get /v3/catalog/index.json /v3/catalog/page0.json
 refuses 'no word at all' 2 "$usage"
 refuses 'init without a base' 2 "$usage" init
 refuses 'init with a base of another form' 2 "$usage" init http://f.test
@@ -142,9 +204,13 @@ cat >"$work/want" <<'EOF'
 ./catalog/page0.json
 ./catalog/staged/1/0.nupkg
 ./catalog/staged/1/0.nuspec
+./content/cursor.json
+./content/d/foo/1.0.0/foo.1.0.0.nupkg
+./content/d/foo/1.0.0/foo.nuspec
+./content/d/foo/index.json
 EOF
 cmp -s "$work/want" "$work/after"
-check 'the folder holds exactly the files of one publish'
+check 'the folder holds exactly the files of one publish and one job'
 
 # A second publish, under another id: the page and the index are written anew, the rest is as it was.
 printf '30 10 3\n{"id":"Bar","version":"1.0.0"}<package/>abc' >"$work/input"
