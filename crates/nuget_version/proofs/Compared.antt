@@ -1,5 +1,5 @@
 -- What the comparisons of labels stand on.
-use Rattle.std.proofs.Common.{◌≡◌, ◌<◌, ◌≤◌, ◌+◌, ◌-◌, ℕ, List, [], ◌∷◌, length, take, drop, get_or, min, map, true, false, Some, None, refl, sym, ◌∙◌, ap, arith, inl, inr, length-drop}
+use Rattle.std.proofs.Common.{◌≡◌, ◌<◌, ◌≤◌, ◌+◌, ◌-◌, ℕ, List, [], ◌∷◌, length, take, drop, get_or, min, map, true, false, Some, None, refl, sym, ap, arith, inl, inr, length-drop}
 use Rattle.std.specs.Prelude.{◌==◌, not}
 use Rattle.std.specs.Char.{is_ascii_digit, to_ascii_lowercase}
 use Rattle.std.specs.Cmp.Lexicographic.{slice_cmp}
@@ -164,14 +164,15 @@ decided Less s h = refl
 decided Equal s h = cc h
 decided Greater s h = refl
 
-then_assoc : (a b c : Ordering) → ordering_then a (ordering_then b c) ≡ ordering_then (ordering_then a b) c
-then_assoc Less b c = refl
-then_assoc Equal b c = refl
-then_assoc Greater b c = refl
+-- two numbers that differ decide, and equal ones leave it to the rest
+pub differ_first : (x y : ℕ) (rest : Ordering) → (x ≡ y → ⊥) → nat_cmp x y ≡ ordering_then (nat_cmp x y) rest
+differ_first x y rest apart = elim (cases_order x y) [
+  | inl same ↦ absurd (apart same)
+  | inr other ↦ elim other [
+    | inl below ↦ rw (cmp_less x y below) refl
+    | inr above ↦ rw (cmp_greater x y above) refl
+  ]
+]
 
--- the numbers first, from the left
-pub numbers_first : (a b c d labels x y n : Ordering) → x ≡ ordering_then a b → y ≡ ordering_then x c → n ≡ ordering_then y d
-    → ordering_then a (ordering_then b (ordering_then c (ordering_then d labels))) ≡ ordering_then n labels
-numbers_first a b c d labels x y n is_x is_y is_n =
-    then_assoc a b (ordering_then c (ordering_then d labels))
-    ∙ rw (← is_x) (then_assoc x c (ordering_then d labels) ∙ rw (← is_y) (then_assoc y d labels ∙ rw (← is_n) refl))
+pub tie_first : (x y : ℕ) (rest : Ordering) → x ≡ y → rest ≡ ordering_then (nat_cmp x y) rest
+tie_first x y rest same = rw (cmp_equal x y same) refl

@@ -16,7 +16,7 @@ use Rattle.nuget_version.proofs.Spelled.{accepts_is, ends_begun, walk_from}
 abbrev pub walked : List ℕ → Option (Place × Found)
 walked text = walk_from text 0 Major false nothing_found
 
--- the state after a front
+-- the state after a prefix
 abbrev pub Reaches : List ℕ → ℕ → Place → Found → Type 0
 Reaches front at p f = (rest : List ℕ) → walked (front ++ rest) ≡ walk_from rest at p.stage p.begun f
 
@@ -31,7 +31,7 @@ version_walks text v =
 pub walks_version : (text : List ℕ) → ends_begun (walked text) ≡ true → IsVersionText text
 walks_version text h = accepted text (accepts_is text 0 Major false nothing_found ∙ h)
 
--- a digit ends each front well
+-- a digit ends each prefix well
 zero_ends : (at : ℕ) (s : Stage) (g : Bool) (f : Found) → ends_begun (walk_from (48 ∷ []) at s g f) ≡ true
 unfolding next_of
 zero_ends at Major g f = refl

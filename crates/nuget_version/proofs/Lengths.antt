@@ -3,6 +3,7 @@ use Rattle.std.proofs.Common.{◌≡◌, ◌<◌, ◌≤◌, ◌+◌, ◌/◌, �
 use Rattle.std.specs.Fmt.{decimal}
 use Rattle.std.proofs.lemmas.Fmt.{decimal_digit, decimal_step}
 use Rattle.nuget_version.specs.Parts.{full_of, marked, numbers_of}
+use Rattle.nuget_version.specs.declared.version.Version.{Version}
 
 pub digits_one : (n : ℕ) → n < 10 → length (decimal n) ≡ 1
 digits_one n small = ap length (decimal_digit n small)
@@ -19,3 +20,16 @@ length-full_of a b c d labels meta =
 pub length-marked_some : (mark : ℕ) (t : List ℕ) → 0 < length t → length (marked mark t) ≡ length t + 1
 length-marked_some mark [] some = absurd (omega arith)
 length-marked_some mark (b ∷ t) some = omega arith
+
+length-le-marked : (mark : ℕ) (t : List ℕ) → length t ≤ length (marked mark t)
+length-le-marked mark [] = omega arith
+length-le-marked mark (b ∷ t) = omega arith
+
+-- the texts of a version are short
+pub labels_short : (v : Version) → length v.labels ≤ 64
+labels_short v =
+    omega (arith, v.short, length-full_of v.major v.minor v.patch v.revision v.labels v.meta, length-le-marked 45 v.labels)
+
+pub meta_short : (v : Version) → length v.meta ≤ 64
+meta_short v =
+    omega (arith, v.short, length-full_of v.major v.minor v.patch v.revision v.labels v.meta, length-le-marked 43 v.meta)

@@ -11,4 +11,5 @@ pub mod OneAnswer
 pub mod OneValue
 pub mod Order
 pub mod ReadBack
+pub mod Settled
 pub mod Spelled

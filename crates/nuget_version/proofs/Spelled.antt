@@ -88,7 +88,7 @@ part_run (b ∷ t) rest s g at f part h =
     ]
 
 -- numbers and the stages that keep them
-number-with : (s : Stage) (n : Number) (f : Found) → is_number_stage s ≡ true → number_of s (with_number s n f) ≡ n
+pub number-with : (s : Stage) (n : Number) (f : Found) → is_number_stage s ≡ true → number_of s (with_number s n f) ≡ n
 number-with Major n f number = refl
 number-with Minor n f number = refl
 number-with Patch n f number = refl
@@ -96,7 +96,7 @@ number-with Revision n f number = refl
 number-with Labels n f number = cc number
 number-with Meta n f number = cc number
 
-with-with : (s : Stage) (n m : Number) (f : Found) → with_number s m (with_number s n f) ≡ with_number s m f
+pub with-with : (s : Stage) (n m : Number) (f : Found) → with_number s m (with_number s n f) ≡ with_number s m f
 with-with Major n m f = refl
 with-with Minor n m f = refl
 with-with Patch n m f = refl
@@ -176,7 +176,7 @@ no_more s rest at f number =
     let e : at ≡ at + 0 = omega arith in
     (s, number, ap (λ (k : ℕ). walk_from rest k s true f) e)
 
--- one number more in front of others
+-- one number more before others
 pub one_more : (n : List ℕ) (more : List (List ℕ)) (rest : List ℕ) (s t : Stage) (at : ℕ) (f after : Found) → is_number_stage s ≡ true → is_number_stage t ≡ true
     → after_dot s ≡ Some (place t false) → is_number n ≡ true
     → NumbersRun t more rest (at + 1 + length n) (with_number t (capped (digits_value 10 n) (at + 1)) f) after

@@ -54,7 +54,7 @@ IsVersionText text = (p : Pieces) × IsMadeOf text p
 abbrev pub Begins : List ℕ → Type 0
 Begins text = (rest : List ℕ) × IsVersionText (text ++ rest)
 
--- the longest front of the text that begins some version text has this length
+-- the longest prefix of the text that begins some version text has this length
 pub record IsLongestFront (text : List ℕ) (at : ℕ) : Type 0 where
   pub within : at ≤ length text
   pub begins : Begins (take at text)

@@ -23,7 +23,7 @@ IsRefused text (BadByte at) = (0 < length text) × (length text ≤ 64) × (IsVe
 IsRefused text (NumberTooBig at) = (p : Pieces) × IsMadeOf text p × (length text ≤ 64) × (first_too_big 0 p.numbers ≡ Some at)
 IsRefused text Memory = ⊤
 
--- but for want of memory, a text has one refusal at most, and none where it spells a version
+-- out of memory apart, a text has one refusal at most, and none where it spells a version
 abbrev pub HasOneAnswer : Type 0
 HasOneAnswer =
     (text : List ℕ) (e : VersionErr) → e ≢ Memory → IsRefused text e

@@ -89,12 +89,22 @@ abbrev pub with_digit_at : Stage → Bool → ℕ → ℕ → Found → Found
 with_digit_at stage begun at digit f =
     with_number stage (if begun then with_digit (number_of stage f) digit else first_digit at digit) f
 
+-- a number with the digit of this byte more, or a number that begins with it
+abbrev pub with_byte : Bool → ℕ → ℕ → Number → Number
+with_byte begun at b n = if begun then with_digit n (b - 48) else first_digit at (b - 48)
+
+-- what was found, with the number that is being read in its place
+abbrev pub settled : Place → Number → Found → Found
+settled p n f = if p.begun then with_number p.stage n f else f
+
+-- what was found, and the place of a dash behind a number or of a plus
+abbrev pub with_mark : Stage → ℕ → ℕ → Found → Found
+with_mark stage at b f =
+    if (b == 45) && is_number_stage stage then record f { dash = Some at } else (if b == 43 then record f { plus = Some at } else f)
+
 -- what was found, and the byte at this place
 unfoldable pub note_of : Stage → Bool → ℕ → ℕ → Found → Found
-note_of stage begun at b f =
-    if is_ascii_digit b then with_digit_at stage begun at (b - 48) f
-    else (if (b == 45) && is_number_stage stage then record f { dash = Some at }
-    else (if b == 43 then record f { plus = Some at } else f))
+note_of stage begun at b f = if is_ascii_digit b then with_digit_at stage begun at (b - 48) f else with_mark stage at b f
 
 -- the text between a mark and this end, and nothing without a mark
 abbrev pub behind_of : List ℕ → Option ℕ → ℕ → List ℕ

@@ -17,14 +17,17 @@ impl Version {
     pub fn compare(&self, other: &Version) -> Ordering
         ensures { result ≡ precedence self.now other.now }
     {
-        let numbers = self
-            .major
-            .cmp(&other.major)
-            .then(self.minor.cmp(&other.minor))
-            .then(self.patch.cmp(&other.patch))
-            .then(self.revision.cmp(&other.revision));
-        if numbers != Ordering::Equal {
-            return numbers;
+        if self.major != other.major {
+            return self.major.cmp(&other.major);
+        }
+        if self.minor != other.minor {
+            return self.minor.cmp(&other.minor);
+        }
+        if self.patch != other.patch {
+            return self.patch.cmp(&other.patch);
+        }
+        if self.revision != other.revision {
+            return self.revision.cmp(&other.revision);
         }
         cmp_labels(self.labels.as_bytes(), other.labels.as_bytes())
     }

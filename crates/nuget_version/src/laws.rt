@@ -14,7 +14,7 @@ pub fn keys_are_names()
     ensures { KeysAreNames }
 {}
 
-/// But for want of memory, a text has one refusal at most, and none where it spells a version.
+/// Out of memory apart, a text has one refusal at most, and none where it spells a version.
 pub fn has_one_answer()
     ensures { HasOneAnswer }
 {}

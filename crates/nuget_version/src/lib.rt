@@ -5,8 +5,6 @@ mod compare;
 mod errors;
 mod laws;
 mod parse;
-#[cfg(test)]
-mod tests;
 mod texts;
 mod values;
 mod version;

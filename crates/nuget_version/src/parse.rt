@@ -1,5 +1,5 @@
 // Reading a version.
-ghost use Rattle.std.specs.Prelude.{◌≡◌, ℕ, ◌≤◌, ◌<◌, ◌+◌, IfErr, IfOk, length};
+ghost use Rattle.std.specs.Prelude.{◌≡◌, ℕ, ◌≤◌, ◌<◌, ◌+◌, IfErr, IfNone, IfOk, IfSome, length};
 ghost use Rattle.std.specs.Option.{ForSome};
 ghost use Rattle.std.specs.Str.{IsAscii};
 ghost use Rattle.std.specs.Fmt.{decimal};
@@ -10,7 +10,7 @@ ghost use Rattle.nuget_version.specs.Walk.{IsFoundIn, behind_of};
 ghost use Rattle.nuget_version.specs.declared.version.Version.{Version};
 
 use crate::errors::VersionErr;
-use crate::values::Text;
+use crate::values::{NoMemory, Text};
 use crate::version::Version;
 use crate::walk::{Found, walk};
 use std::alloc::Global;
@@ -30,7 +30,13 @@ impl Version {
         let found = checked(text)?;
         let labels = behind(text, found.dash, found.plus.unwrap_or(text.len()));
         let meta = behind(text, found.plus, text.len());
-        let len = numbers_len(&found) + marked_len(labels) + marked_len(meta);
+        let numbers = numbers_len(
+            found.major.value,
+            found.minor.value,
+            found.patch.value,
+            found.revision.value,
+        );
+        let len = numbers + marked_len(labels) + marked_len(meta);
         if len > MOST {
             return Err(VersionErr::TooLong(len as u64));
         }
@@ -44,6 +50,20 @@ impl Version {
             labels,
             meta,
         })
+    }
+
+    /// The version that a text spells, by the grammar of `parse`, and nothing where it spells none.
+    pub fn read(alloc: Global, text: &str) -> Result<Option<Version>, NoMemory>
+        ensures found { IfOk result (λ o. IfSome o (λ v. Spells text.now v)) }
+        ensures none { IfOk result (λ o. IfNone o ((v : Version) → Spells text.now v → ⊥)) }
+    {
+        match Version::parse(alloc, text) {
+            Ok(version) => Ok(Some(version)),
+            Err(error) => match error {
+                VersionErr::Memory => Err(NoMemory),
+                _ => Ok(None),
+            },
+        }
     }
 }
 
@@ -98,24 +118,20 @@ fn digits_len(number: u32) -> usize
 }
 
 // How many bytes the printed numbers have.
-fn numbers_len(found: &Found) -> usize
-    ensures value { result
-        ≡ length (numbers_of found.now.major.value found.now.minor.value found.now.patch.value found.now.revision.value) }
+pub(crate) fn numbers_len(major: u32, minor: u32, patch: u32, revision: u32) -> usize
+    ensures value { result ≡ length (numbers_of major minor patch revision) }
     ensures small { result ≤ 43 }
 {
-    let three = digits_len(found.major.value)
-        + digits_len(found.minor.value)
-        + digits_len(found.patch.value)
-        + 2;
-    if found.revision.value == 0 {
+    let three = digits_len(major) + digits_len(minor) + digits_len(patch) + 2;
+    if revision == 0 {
         three
     } else {
-        three + 1 + digits_len(found.revision.value)
+        three + 1 + digits_len(revision)
     }
 }
 
 // How many bytes a text behind its mark has.
-fn marked_len(text: &str) -> usize
+pub(crate) fn marked_len(text: &str) -> usize
     requires { length text.now ≤ 64 }
     ensures value { (mark : ℕ) → result ≡ length (marked mark text.now) }
     ensures small { result ≤ 65 }

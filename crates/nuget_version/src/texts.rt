@@ -1,24 +1,24 @@
 // Steps of printing and of looking into texts.
-ghost use Rattle.std.specs.Prelude.{◌≡◌, ◌<◌, ◌==◌, ◌++◌, OnOk, IfOk, string_bytes};
+ghost use Rattle.std.specs.Prelude.{◌≡◌, ◌<◌, ◌==◌, ◌++◌, OnOk, string_bytes};
 ghost use Rattle.std.specs.List.{list_any};
 ghost use Rattle.nuget_version.specs.Parts.{marked, numbers_of};
 
-use std::alloc::{AllocError, Global};
+use std::alloc::AllocError;
 
-// The numbers joined by dots, the fourth where it isn't 0.
-pub(crate) fn print_numbers(
-    alloc: Global,
+// Appends the numbers joined by dots, the fourth where it isn't 0.
+pub(crate) fn push_numbers(
+    out: &mut String,
     major: u32,
     minor: u32,
     patch: u32,
     revision: u32,
-) -> Result<String, AllocError>
-    ensures { IfOk result (λ s. string_bytes s ≡ numbers_of major minor patch revision) }
+) -> Result<(), AllocError>
+    ensures { OnOk result (string_bytes out.new ≡ string_bytes out.old ++ numbers_of major minor patch revision) }
 {
     if revision == 0 {
-        format!(in alloc; "{major}.{minor}.{patch}")
+        write!(out, "{major}.{minor}.{patch}")
     } else {
-        format!(in alloc; "{major}.{minor}.{patch}.{revision}")
+        write!(out, "{major}.{minor}.{patch}.{revision}")
     }
 }
 

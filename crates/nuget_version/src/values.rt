@@ -1,13 +1,20 @@
-// Text, bytes and lists that contracts see as lists, and want of memory.
-ghost use Rattle.std.specs.Prelude.{◌≡◌, ◌++◌, ◌∷◌, [], length, string_bytes, IfOk, OnOk, OnErr, IsTrue, ◌↔◌, slice_get};
+// Text, bytes and lists that contracts see as lists, and out of memory.
+ghost use Rattle.std.specs.Prelude.{◌≡◌, ◌++◌, ◌∷◌, [], length, string_bytes, IfOk, OnOk, OnErr, IsTrue, IsUtf8, ◌↔◌, slice_get};
 ghost use Rattle.std.specs.Option.{option_copied};
 
 use std::alloc::{AllocError, AllocFailed, Global};
+use std::fmt;
 use std::marker::Model;
 
-/// Want of memory, and nothing else.
+/// Out of memory, and nothing else.
 #[derive(Clone, Copy, Debug, PartialEq, Eq)]
 pub struct NoMemory;
+
+impl fmt::Display for NoMemory {
+    fn fmt<W: fmt::Write>(&self, f: &mut fmt::Formatter<W>) -> fmt::Result {
+        f.write_str("out of memory")
+    }
+}
 
 impl From<AllocError> for NoMemory {
     fn from(_: AllocError) -> Self {
@@ -62,8 +69,10 @@ impl Text {
         self.string.as_str()
     }
 
+    /// The bytes, which are UTF-8 in every text.
     pub fn as_bytes(&self) -> &[u8]
-        ensures { result.now ≡ self.now }
+        ensures value { result.now ≡ self.now }
+        ensures utf8 { IsUtf8 self.now }
     {
         self.string.as_bytes()
     }

@@ -2,7 +2,8 @@
 ghost use Rattle.std.specs.Prelude.{◌≡◌, ◌≤◌, IsTrue, length};
 ghost use Rattle.nuget_version.specs.Parts.{full_of, is_dotted};
 
-use crate::texts::{has_dot, print_numbers, push_marked};
+use crate::parse::{marked_len, numbers_len};
+use crate::texts::{has_dot, push_marked, push_numbers};
 use crate::values::{NoMemory, Text};
 use std::alloc::{AllocError, Global};
 
@@ -39,7 +40,7 @@ impl Version {
     pub fn normal(&self, alloc: Global) -> Result<Text, NoMemory>
         ensures { IfOk result (λ t. t ≡ normal_text self.now) }
     {
-        Ok(Text::of(self.normal_string(alloc)?))
+        Ok(Text::of(self.normal_string(alloc, 0)?))
     }
 
     /// The normal form, and the metadata behind `+`.
@@ -47,7 +48,7 @@ impl Version {
     pub fn full(&self, alloc: Global) -> Result<Text, NoMemory>
         ensures { IfOk result (λ t. t ≡ full_text self.now) }
     {
-        let mut text = self.normal_string(alloc)?;
+        let mut text = self.normal_string(alloc, marked_len(self.meta.as_str()))?;
         push_marked(&mut text, '+', self.meta.as_str())?;
         Ok(Text::of(text))
     }
@@ -58,7 +59,7 @@ impl Version {
     pub fn key(&self, alloc: Global) -> Result<Text, NoMemory>
         ensures { IfOk result (λ t. t ≡ key_text self.now) }
     {
-        let mut text = self.normal_string(alloc)?;
+        let mut text = self.normal_string(alloc, 0)?;
         text.make_ascii_lowercase();
         Ok(Text::of(text))
     }
@@ -92,11 +93,16 @@ impl Version {
         has_dot(self.labels.as_bytes()) || !self.meta.as_bytes().is_empty()
     }
 
+    // The normal form, with room for as many further bytes.
     #[tactic(auto, unfolding(crate::specs::Printed::normal_text))]
-    fn normal_string(&self, alloc: Global) -> Result<String, AllocError>
+    fn normal_string(&self, alloc: Global, further: usize) -> Result<String, AllocError>
+        requires { further ≤ 65 }
         ensures { IfOk result (λ s. string_bytes s ≡ normal_text self.now) }
     {
-        let mut text = print_numbers(alloc, self.major, self.minor, self.patch, self.revision)?;
+        let numbers = numbers_len(self.major, self.minor, self.patch, self.revision);
+        let room = numbers + marked_len(self.labels.as_str()) + further;
+        let mut text = String::with_capacity(alloc, room)?;
+        push_numbers(&mut text, self.major, self.minor, self.patch, self.revision)?;
         push_marked(&mut text, '-', self.labels.as_str())?;
         Ok(text)
     }

@@ -1,8 +1,9 @@
 // One pass over a version's text, byte by byte.
-ghost use Rattle.std.specs.Prelude.{◌≡◌, false, IfErr, IfOk, OnErr};
+ghost use Rattle.std.specs.Prelude.{◌≡◌, ◌&&◌, false, not, IfErr, IfOk, IsTrue, OnErr};
+ghost use Rattle.std.specs.Char.{is_ascii_digit};
 ghost use Rattle.nuget_version.specs.Parts.{is_part_byte};
 ghost use Rattle.nuget_version.specs.Grammar.{IsLongestFront, IsMadeOf, IsVersionText, Pieces};
-ghost use Rattle.nuget_version.specs.Walk.{found_of, after_dot, after_plus, is_number_stage, next_in_number, next_in_part, next_of, note_of, nothing_found, number_of, place, too_big_of, with_digit, with_digit_at, with_number};
+ghost use Rattle.nuget_version.specs.Walk.{found_of, after_dot, after_plus, is_number_stage, next_in_number, next_in_part, next_of, nothing_found, place, settled, too_big_of, with_byte, with_digit, with_mark, with_number};
 
 // The first value above the limit of a number.
 const TOO_BIG: u32 = 2147483648;
@@ -67,6 +68,20 @@ impl Place {
             stage,
             begun: false,
         }
+    }
+
+    // Whether the byte is a digit of a number.
+    fn reads_digit(self, byte: u8) -> bool
+        ensures { result ≡ (is_number_stage self.stage && is_ascii_digit byte) }
+    {
+        self.stage.is_number() && byte.is_ascii_digit()
+    }
+
+    // Whether the byte belongs to a part.
+    fn reads_part(self, byte: u8) -> bool
+        ensures { result ≡ (not (is_number_stage self.stage) && is_part_byte byte) }
+    {
+        !self.stage.is_number() && is_part_byte(byte)
     }
 
     // The place behind a byte, and nothing where no version text goes on with it.
@@ -143,6 +158,24 @@ impl Number {
     }
 }
 
+impl Number {
+    // The number with this digit, or a number that begins with it.
+    fn goes_on(self, begun: bool, at: usize, byte: u8) -> Number
+        requires { IsTrue (is_ascii_digit byte) }
+        ensures { result ≡ with_byte begun at byte self }
+    {
+        let digit = byte - b'0';
+        if begun {
+            self.with_digit(digit)
+        } else {
+            Number {
+                value: u32::from(digit),
+                at,
+            }
+        }
+    }
+}
+
 // What was found in a text: its numbers, 0 where they are missing, and the places of the marks.
 #[derive(Clone, Copy, Debug)]
 pub(crate) struct Found {
@@ -169,17 +202,6 @@ impl Found {
         }
     }
 
-    fn number_of(&self, stage: Stage) -> Number
-        ensures { result ≡ number_of stage self.now }
-    {
-        match stage {
-            Stage::Minor => self.minor,
-            Stage::Patch => self.patch,
-            Stage::Revision => self.revision,
-            Stage::Major | Stage::Labels | Stage::Meta => self.major,
-        }
-    }
-
     fn set_number(&mut self, stage: Stage, number: Number)
         ensures { self.new ≡ with_number stage number self.old }
     {
@@ -192,18 +214,13 @@ impl Found {
         }
     }
 
-    fn note_digit(&mut self, place: Place, at: usize, digit: u8)
-        ensures { self.new ≡ with_digit_at place.stage place.begun at digit self.old }
+    // Puts the number that was read in its place.
+    fn settle(&mut self, place: Place, number: Number)
+        ensures { self.new ≡ settled place number self.old }
     {
-        let number = if place.begun {
-            self.number_of(place.stage).with_digit(digit)
-        } else {
-            Number {
-                value: u32::from(digit),
-                at,
-            }
-        };
-        self.set_number(place.stage, number);
+        if place.begun {
+            self.set_number(place.stage, number);
+        }
     }
 
     // Where the first number above the limit begins.
@@ -216,14 +233,11 @@ impl Found {
             .map(|number| number.at)
     }
 
-    // Notes the byte at this place.
-    #[tactic(auto, unfolding(crate::specs::Walk::note_of))]
-    fn note(&mut self, place: Place, at: usize, byte: u8)
-        ensures { self.new ≡ note_of place.stage place.begun at byte self.old }
+    // Notes the place of a dash behind a number, and of a plus.
+    fn note_mark(&mut self, stage: Stage, at: usize, byte: u8)
+        ensures { self.new ≡ with_mark stage at byte self.old }
     {
-        if byte.is_ascii_digit() {
-            self.note_digit(place, at, byte - b'0');
-        } else if byte == b'-' && place.stage.is_number() {
+        if byte == b'-' && stage.is_number() {
             self.dash = Some(at);
         } else if byte == b'+' {
             self.plus = Some(at);
@@ -231,7 +245,7 @@ impl Found {
     }
 }
 
-// What the pieces of a text are, or else the length of its longest front that begins some version
+// What the pieces of a text are, or else the length of its longest prefix that begins some version
 // text.
 pub(crate) fn walk(text: &[u8]) -> Result<Found, usize>
     ensures found { IfOk result (λ f. (p : Pieces) × IsMadeOf text.now p × (f ≡ found_of p)) }
@@ -239,15 +253,25 @@ pub(crate) fn walk(text: &[u8]) -> Result<Found, usize>
     ensures place { IfErr result (λ at. IsLongestFront text.now at) }
 {
     let mut place = Place::start_of(Stage::Major);
+    let mut number = Number { value: 0, at: 0 };
     let mut found = Found::nothing();
     for (at, byte) in text.iter().enumerate() {
-        let Some(next) = place.next(*byte) else {
-            return Err(at);
-        };
-        found.note(place, at, *byte);
-        place = next;
+        if place.reads_digit(*byte) {
+            number = number.goes_on(place.begun, at, *byte);
+            place.begun = true;
+        } else if place.reads_part(*byte) {
+            place.begun = true;
+        } else {
+            let Some(next) = place.next(*byte) else {
+                return Err(at);
+            };
+            found.settle(place, number);
+            found.note_mark(place.stage, at, *byte);
+            place = next;
+        }
     }
     if place.begun {
+        found.settle(place, number);
         Ok(found)
     } else {
         Err(text.len())

@@ -5,7 +5,7 @@ use Rattle.std.proofs.lemmas.List.{drop_more, take_all}
 use Rattle.package_id.specs.Ids.{is_word_byte, is_joint, is_id, IsId, BeginsId, IsLongestFront}
 use Rattle.package_id.proofs.Walk.{goes_on, is_id-goes_on}
 
--- what is left of an id behind this front
+-- what is left of an id behind this prefix
 abbrev pub LeadsTo : List ℕ → Bool → Type 0
 LeadsTo front within = (rest : List ℕ) → goes_on false (front ++ rest) ≡ goes_on within rest
 

@@ -5,7 +5,7 @@ use Rattle.package_id.specs.declared.error.IdErr.TheVariants.{Empty, TooLong, Ba
 use Rattle.package_id.specs.Ids.{IsId, IsLongestFront}
 use Rattle.package_id.specs.Refusals.{IsRefusedFor}
 
--- a text has one longest front
+-- a text has one longest prefix
 pub same_front : (text : List ℕ) (m n : ℕ) → IsLongestFront text m → IsLongestFront text n → m ≡ n
 same_front text m n one other =
     let not_below : ¬ (m < n) = λ below. one.longest n below other.within other.begins in

@@ -47,7 +47,7 @@ id_key text = map to_ascii_lowercase text
 abbrev pub BeginsId : List ℕ → Type 0
 BeginsId text = (rest : List ℕ) × IsId (text ++ rest)
 
--- the longest front of the text that some id begins with has this length
+-- the longest prefix of the text that some id begins with has this length
 pub record IsLongestFront (text : List ℕ) (at : ℕ) : Type 0 where
   pub within : at ≤ length text
   pub begins : BeginsId (take at text)

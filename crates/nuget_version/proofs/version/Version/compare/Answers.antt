@@ -1,27 +1,38 @@
-use Rattle.std.proofs.Common.{nat_cmp, refl, ap, sym, ◌∙◌}
-use Rattle.std.specs.Ordering.{ordering_then}
-use Rattle.std.specs.Str.{str_to_ascii_lowercase}
-use Rattle.nuget_version.specs.Precedence.{labels_cmp, precedence}
-use Rattle.nuget_version.proofs.Compared.{decided, equal_from, numbers_first}
+use Rattle.std.proofs.Common.{◌∙◌}
+use Rattle.nuget_version.specs.Precedence.{precedence}
+use Rattle.nuget_version.proofs.Compared.{differ_first, tie_first}
 use Rattle.nuget_version.proofs.version.Version.compare.Goals as goal
 
-pub returns-then-ne : goal.returns-then-ne
+pub returns-then-self-other : goal.returns-then-self-other
 unfolding precedence
-returns-then-ne c =
-    let u = c.args.self.now in
-    let v = c.args.other.now in
-    let labels = labels_cmp (str_to_ascii_lowercase u.labels) (str_to_ascii_lowercase v.labels) in
-    let whole = numbers_first (nat_cmp u.major v.major) (nat_cmp u.minor v.minor) (nat_cmp u.patch v.patch) (nat_cmp u.revision v.revision) labels c.then.result c.then-2.result c.then-numbers.result
-    (rw (c.then.ensures, c.cmp.ensures, c.cmp-2.ensures) refl) (rw (c.then-2.ensures, c.cmp-3.ensures) refl) (rw (c.then-numbers.ensures, c.cmp-4.ensures) refl) in
-    sym (whole ∙ decided c.then-numbers.result labels (sym c.ne.ensures ∙ c.if-ne.true))
+returns-then-self-other c = c.cmp.ensures ∙ differ_first c.args.self.now.major c.args.other.now.major _ c.if-self-other.true
+
+pub returns-then-self-other-2 : goal.returns-then-self-other-2
+unfolding precedence
+returns-then-self-other-2 c =
+    c.cmp-then-self-other-2.ensures ∙ differ_first c.args.self.now.minor c.args.other.now.minor _ c.if-self-other-2.true
+    ∙ tie_first c.args.self.now.major c.args.other.now.major _ c.if-self-other.false
+
+pub returns-then-self-other-3 : goal.returns-then-self-other-3
+unfolding precedence
+returns-then-self-other-3 c =
+    c.cmp-then-self-other-3.ensures ∙ differ_first c.args.self.now.patch c.args.other.now.patch _ c.if-self-other-3.true
+    ∙ tie_first c.args.self.now.minor c.args.other.now.minor _ c.if-self-other-2.false
+    ∙ tie_first c.args.self.now.major c.args.other.now.major _ c.if-self-other.false
+
+pub returns-then-self-other-4 : goal.returns-then-self-other-4
+unfolding precedence
+returns-then-self-other-4 c =
+    c.cmp-then-self-other-4.ensures ∙ differ_first c.args.self.now.revision c.args.other.now.revision _ c.if-self-other-4.true
+    ∙ tie_first c.args.self.now.patch c.args.other.now.patch _ c.if-self-other-3.false
+    ∙ tie_first c.args.self.now.minor c.args.other.now.minor _ c.if-self-other-2.false
+    ∙ tie_first c.args.self.now.major c.args.other.now.major _ c.if-self-other.false
 
 pub returns : goal.returns
 unfolding precedence
 returns c =
-    let u = c.args.self.now in
-    let v = c.args.other.now in
-    let labels = labels_cmp (str_to_ascii_lowercase u.labels) (str_to_ascii_lowercase v.labels) in
-    let whole = numbers_first (nat_cmp u.major v.major) (nat_cmp u.minor v.minor) (nat_cmp u.patch v.patch) (nat_cmp u.revision v.revision) labels c.then.result c.then-2.result c.then-numbers.result
-    (rw (c.then.ensures, c.cmp.ensures, c.cmp-2.ensures) refl) (rw (c.then-2.ensures, c.cmp-3.ensures) refl) (rw (c.then-numbers.ensures, c.cmp-4.ensures) refl) in
-    let tie = equal_from c.then-numbers.result (sym c.ne.ensures ∙ c.if-ne.false) in
-    c.cmp_labels.ensures ∙ rw (c.as_bytes.ensures, c.as_bytes-2.ensures) (sym (whole ∙ ap (λ o. ordering_then o labels) tie))
+    rw (c.as_bytes.ensures.value, c.as_bytes-2.ensures.value) at c.cmp_labels.ensures
+    ∙ tie_first c.args.self.now.revision c.args.other.now.revision _ c.if-self-other-4.false
+    ∙ tie_first c.args.self.now.patch c.args.other.now.patch _ c.if-self-other-3.false
+    ∙ tie_first c.args.self.now.minor c.args.other.now.minor _ c.if-self-other-2.false
+    ∙ tie_first c.args.self.now.major c.args.other.now.major _ c.if-self-other.false

@@ -31,7 +31,7 @@ returns-then-len-gt-MOST-clause-refused c =
     let h = c.in_ok-found.ensures.found in
     let l = labels_read text f h c.unwrap_or.result c.behind-labels.result.now c.unwrap_or.ensures c.behind-labels.ensures.value in
     let m = meta_read text f h c.behind-meta.result.now c.behind-meta.ensures.value in
-    let len = full_is f.major.value f.minor.value f.patch.value f.revision.value h.pieces.labels c.behind-labels.result.now h.pieces.meta c.behind-meta.result.now c.numbers_len.result c.marked_len.result c.marked_len-2.result (sym l) (sym m) c.numbers_len.ensures.value c.marked_len.ensures.value c.marked_len-2.ensures.value in
+    let len = full_is f.major.value f.minor.value f.patch.value f.revision.value h.pieces.labels c.behind-labels.result.now h.pieces.meta c.behind-meta.result.now c.numbers_len-numbers.result c.marked_len.result c.marked_len-2.result (sym l) (sym m) c.numbers_len-numbers.ensures.value c.marked_len.ensures.value c.marked_len-2.ensures.value in
     inr (h.pieces, h.made, h.short, h.small, len ∙ ap length (pieces_full_is text f h), c.if-len-gt-MOST.true)
 
 pub returns-then-len-gt-MOST-clause-accepts : goal.returns-then-len-gt-MOST-clause-accepts
@@ -42,7 +42,7 @@ returns-then-len-gt-MOST-clause-accepts c = λ v spelled.
     let s = same_as text f h.pieces h.made h.found v spelled in
     let l : c.behind-labels.result.now ≡ v.labels = c.behind-labels.ensures.value ∙ ap (λ (k : ℕ). behind_of text f.dash k) c.unwrap_or.ensures ∙ s.labels in
     let m : c.behind-meta.result.now ≡ v.meta = c.behind-meta.ensures.value ∙ s.meta in
-    let len = full_is f.major.value f.minor.value f.patch.value f.revision.value c.behind-labels.result.now c.behind-labels.result.now c.behind-meta.result.now c.behind-meta.result.now c.numbers_len.result c.marked_len.result c.marked_len-2.result refl refl c.numbers_len.ensures.value c.marked_len.ensures.value c.marked_len-2.ensures.value in
+    let len = full_is f.major.value f.minor.value f.patch.value f.revision.value c.behind-labels.result.now c.behind-labels.result.now c.behind-meta.result.now c.behind-meta.result.now c.numbers_len-numbers.result c.marked_len.result c.marked_len-2.result refl refl c.numbers_len-numbers.ensures.value c.marked_len.ensures.value c.marked_len-2.ensures.value in
     let fits = spelled_full_is text f v s c.behind-labels.result.now c.behind-meta.result.now l m in
     absurd (omega (arith, len, fits, c.if-len-gt-MOST.true))
 
@@ -73,7 +73,7 @@ invariant_of-result-clause-meta_dotted c =
 pub invariant_of-result-clause-short : goal.invariant_of-result-clause-short
 invariant_of-result-clause-short c =
     let f = c.in_ok-found.found in
-    let len = full_is f.major.value f.minor.value f.patch.value f.revision.value c.in_ok-labels.labels c.behind-labels.result.now c.in_ok-meta.meta c.behind-meta.result.now c.numbers_len.result c.marked_len.result c.marked_len-2.result c.in_ok-labels.ensures c.in_ok-meta.ensures c.numbers_len.ensures.value c.marked_len.ensures.value c.marked_len-2.ensures.value in
+    let len = full_is f.major.value f.minor.value f.patch.value f.revision.value c.in_ok-labels.labels c.behind-labels.result.now c.in_ok-meta.meta c.behind-meta.result.now c.numbers_len-numbers.result c.marked_len.result c.marked_len-2.result c.in_ok-labels.ensures c.in_ok-meta.ensures c.numbers_len-numbers.ensures.value c.marked_len.ensures.value c.marked_len-2.ensures.value in
     omega (arith, len, c.if-len-gt-MOST.false)
 
 pub returns-clause-ok : goal.returns-clause-ok

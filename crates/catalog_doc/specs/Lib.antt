@@ -1,6 +1,0 @@
-pub mod CatDocs
-pub mod Documents
-pub mod Laws
-pub mod Members
-pub mod Names
-pub mod Reading

@@ -1,5 +1,0 @@
-pub mod Clock
-pub mod Counts
-pub mod Memory
-pub mod Sink
-pub mod Source

@@ -1,4 +1,0 @@
-pub mod Cutting
-pub mod Exclusion
-pub mod Keys
-pub mod Plain

@@ -1,6 +1,0 @@
-use Rattle.std.proofs.Common.{refl}
-use Rattle.job_round.proofs.Steps.{put_kept}
-use Rattle.job_round.proofs.puts.put_staged.Goals as goal
-
-pub returns-in-Err-clause-some : goal.returns-in-Err-clause-some
-returns-in-Err-clause-some g c = put_kept _ (g.B.Blobs.held c.args.catalog.now.area) (g.B.Blobs.held c.args.area.now) (g.B.Blobs.held c.args.area.now) refl

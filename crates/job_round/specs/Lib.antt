@@ -1,4 +1,0 @@
-pub mod Errors
-pub mod Keys
-pub mod Puts
-pub mod Round

@@ -1,7 +1,0 @@
-pub mod Cuts
-pub mod Form
-pub mod Grammar
-pub mod Holds
-pub mod Order
-pub mod Printed
-pub mod Refusals
