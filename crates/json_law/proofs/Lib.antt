@@ -1,0 +1,4 @@
+pub mod Back
+pub mod Utf8
+pub mod Lists
+pub mod Readers

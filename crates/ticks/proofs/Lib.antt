@@ -1,0 +1,12 @@
+pub mod Dates
+pub mod Digits
+pub mod Fitting
+pub mod Forms
+pub mod Moments
+pub mod Named
+pub mod Numbers
+pub mod Pieces
+pub mod Rising
+pub mod Scanning
+pub mod StampLemmas
+pub mod Vectors

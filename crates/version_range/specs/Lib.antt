@@ -1,0 +1,10 @@
+pub mod Bytes
+pub mod Cuts
+pub mod Form
+pub mod Grammar
+pub mod Holds
+pub mod Order
+pub mod Places
+pub mod Printed
+pub mod Refusals
+pub mod Steps
