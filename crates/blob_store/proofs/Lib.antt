@@ -1,0 +1,14 @@
+pub mod Areas
+pub mod Changes
+pub mod Compose
+pub mod Following
+pub mod Fronts
+pub mod InMemory
+pub mod Moments
+pub mod OneCall
+pub mod OnlyReads
+pub mod PlanFronts
+pub mod RunFronts
+pub mod Spelled
+pub mod Stepping
+pub mod Told

@@ -1,0 +1,14 @@
+pub mod Area
+pub mod Asked
+pub mod Blobs
+pub mod Events
+pub mod Fails
+pub mod Laws
+pub mod Memory
+pub mod Moments
+pub mod Plans
+pub mod Record
+pub mod Runs
+pub mod Seen
+pub mod Steps
+pub mod Tracked
