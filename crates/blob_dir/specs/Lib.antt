@@ -1,0 +1,4 @@
+pub mod Counted
+pub mod Locked
+pub mod Names
+pub mod Touched
