@@ -1,0 +1,9 @@
+pub mod Ids
+pub mod Lists
+pub mod Matches
+pub mod OneAnswer
+pub mod Printed
+pub mod RoundTrip
+pub mod SameTexts
+pub mod Slots
+pub mod Tables

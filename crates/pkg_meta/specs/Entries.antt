@@ -1,0 +1,14 @@
+-- The entries of an id, by their versions.
+use Rattle.std.specs.Prelude.{List, map}
+use Rattle.std.specs.List.Sorted.{IsStrictlySortedBy}
+use Rattle.nuget_version.specs.Precedence.{precedence}
+use Rattle.nuget_version.specs.declared.version.Version.{Version}
+use Rattle.pkg_meta.specs.declared.entry.Entry.{Entry}
+
+-- the version that an entry is of
+abbrev pub version_in : Entry → Version
+version_in e = e.details.meta.version
+
+-- strictly rising precedence
+abbrev pub AreRising : List Entry → Type 0
+AreRising es = IsStrictlySortedBy precedence (map version_in es)

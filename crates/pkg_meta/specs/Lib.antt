@@ -1,0 +1,17 @@
+pub mod Catalog
+pub mod Entries
+pub mod Identity
+pub mod Items
+pub mod Kinds
+pub mod Lawful
+pub mod Laws
+pub mod Members
+pub mod Publisher
+pub mod Refusals
+pub mod Rows
+pub mod SemVer2
+pub mod Slots
+pub mod TextMeta
+pub mod Texts
+pub mod Trees
+pub mod Values
