@@ -1,0 +1,15 @@
+pub mod AllPages
+pub mod DocNames
+pub mod InRange
+pub mod LeafData
+pub mod Lists
+pub mod LookUps
+pub mod NewDocs
+pub mod Numbered
+pub mod OnePage
+pub mod PlacePuts
+pub mod Prefixes
+pub mod RowData
+pub mod Slotted
+pub mod Spelling
+pub mod Unspelled

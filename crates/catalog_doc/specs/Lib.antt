@@ -1,0 +1,12 @@
+pub mod CatDocs
+pub mod Catalogs
+pub mod Commits
+pub mod Documents
+pub mod Errors
+pub mod Hash
+pub mod Laws
+pub mod Members
+pub mod Names
+pub mod Reading
+pub mod Spelled
+pub mod Verdict

@@ -1,0 +1,9 @@
+pub mod CommitIds
+pub mod LeafTexts
+pub mod Leaves
+pub mod Mapped
+pub mod Parsed
+pub mod Readable
+pub mod Shows
+pub mod Texts
+pub mod Walks

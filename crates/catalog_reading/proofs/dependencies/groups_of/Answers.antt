@@ -1,0 +1,21 @@
+use Rattle.std.proofs.Common.{◌∙◌, ap, arith, length, sym, Some}
+use Rattle.std.proofs.lemmas.Option.{none-some}
+use Rattle.pkg_meta.specs.Trees.{group_tree}
+use Rattle.catalog_reading.proofs.Mapped.{length-mapped, nth_of}
+use Rattle.catalog_reading.proofs.Walks.{all_read, one_read}
+use Rattle.catalog_reading.proofs.dependencies.groups_of.Goals as goal
+
+pub returns-in_default : goal.returns-in_default
+returns-in_default c = λ wanted same.
+    let nth = nth_of group_tree _ _ _ wanted same c.loop-value-test.true c.value-item.is in
+    absurd (none-some nth.it (sym c.in_default.is ∙ c.in_ok-group.ensures nth.it nth.seen))
+
+pub loop-value-preserved : goal.loop-value-preserved
+loop-value-preserved c = λ wanted same.
+    let nth = nth_of group_tree _ _ _ wanted same c.loop-value-test.true c.value-item.is in
+    one_read _ _ wanted c.in-Some.group nth.it _ (c.loop-value.invariant wanted same) nth.left (sym c.in-Some.is ∙ c.in_ok-group.ensures nth.it nth.seen) c.in_ok-push.ensures.ok
+
+pub returns : goal.returns
+returns c = λ wanted same.
+    ap Some (all_read c.loop-value.groups wanted (length c.args.values.now) c.loop-value.value-index (length-mapped group_tree c.args.values.now wanted same)
+    (omega (arith, c.loop-value-test.false, c.loop-value.auto.value-index-end)) (c.loop-value.invariant wanted same))

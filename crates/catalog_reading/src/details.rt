@@ -1,0 +1,256 @@
+// The details that a stored document shows. Each field is said for what the writers write; of other values
+// something else may be read.
+ghost use Rattle.std.specs.Prelude.{◌≡◌, ◌<◌, ◌^◌, ℕ, List, Some, IfOk, MatchOption, decimal};
+ghost use Rattle.serde_json.specs.View.{view};
+ghost use Rattle.pkg_meta.specs.Trees.{details_tree};
+ghost use Rattle.pkg_meta.specs.declared.item.Details.{Details};
+ghost use Rattle.catalog_doc.specs.Names.{place_name};
+ghost use Rattle.catalog_doc.specs.Reading.{IsDetailsValue};
+ghost use Rattle.catalog_reading.specs.Shown.{number_at, ShowsDetails, words_at};
+
+use crate::dependencies::groups_of;
+use crate::fields::{decimal_of, moment_of};
+use pkg_meta::{
+    DepGroup, Details, Many, Meta, NoMemory, PackageId, Text, Ticks, Version, copy_text_in,
+    copy_texts_of, flag_in, items_in, text_in,
+};
+use serde_json::Value;
+use std::alloc::Global;
+
+// The commit and the place that published an item.
+#[derive(Clone, Copy)]
+struct Origin {
+    number: u32,
+    place: u32,
+}
+
+// What stands before the first slash and behind it.
+fn parted(text: &str) -> Option<(&str, &str)>
+    ensures { (n p : ℕ) → n < 2 ^ 32 → text.now ≡ place_name n p → MatchOption result ⊥ (λ parts. (parts.0.now ≡ decimal n) × (parts.1.now ≡ decimal p)) }
+{
+    text.split_once('/')
+}
+
+fn origin_of(text: &str) -> Option<Origin>
+    ensures { (n p : ℕ) → n < 2 ^ 32 → p < 2 ^ 32 → text.now ≡ place_name n p → result ≡ Some (record { number = n; place = p }) }
+{
+    let (number, place) = parted(text)?;
+    let number = decimal_of(number.as_bytes())?;
+    let place = decimal_of(place.as_bytes())?;
+    Some(Origin { number, place })
+}
+
+fn origin_in(value: &Value) -> Option<Origin>
+    ensures { (d : Details) → IsDetailsValue d → ShowsDetails d (view value.now) → result ≡ Some (record { number = d.origin_number; place = d.origin_place }) }
+{
+    match text_in(value, "origin") {
+        Some(text) => origin_of(text),
+        None => None,
+    }
+}
+
+fn created_in(value: &Value) -> Option<Ticks>
+    ensures { (d : Details) → IsDetailsValue d → ShowsDetails d (view value.now) → result ≡ Some d.created }
+{
+    match text_in(value, "created") {
+        Some(text) => moment_of(text),
+        None => None,
+    }
+}
+
+// The number under a name, where there is one.
+fn number_in(value: &Value, name: &str) -> Option<u64>
+    ensures { result ≡ number_at name.now (view value.now) }
+{
+    value.get(name).and_then(Value::as_u64)
+}
+
+fn size_in(value: &Value) -> Option<u64>
+    ensures { (d : Details) → ShowsDetails d (view value.now) → result ≡ Some d.size }
+{
+    number_in(value, "packageSize")
+}
+
+fn listed_in(value: &Value) -> Option<bool>
+    ensures { (d : Details) → ShowsDetails d (view value.now) → result ≡ Some d.listed }
+{
+    flag_in(value, "listed")
+}
+
+// What details say beside their texts.
+#[derive(Clone, Copy)]
+struct Marks {
+    listed: bool,
+    created: Ticks,
+    origin: Origin,
+    size: u64,
+}
+
+fn marks_in(value: &Value) -> Option<Marks>
+    ensures { (d : Details) → IsDetailsValue d → ShowsDetails d (view value.now) → result ≡ Some (record { listed = d.listed; created = d.created; origin = record { number = d.origin_number; place = d.origin_place }; size = d.size }) }
+{
+    let listed = listed_in(value)?;
+    let created = created_in(value)?;
+    let origin = origin_in(value)?;
+    let size = size_in(value)?;
+    Some(Marks {
+        listed,
+        created,
+        origin,
+        size,
+    })
+}
+
+fn id_in(alloc: Global, value: &Value) -> Result<Option<PackageId>, NoMemory>
+    ensures { (d : Details) → ShowsDetails d (view value.now) → IfOk result (λ found. found ≡ Some d.meta.id) }
+{
+    match text_in(value, "id") {
+        Some(text) => PackageId::read(alloc, text),
+        None => Ok(None),
+    }
+}
+
+fn version_in(alloc: Global, value: &Value) -> Result<Option<Version>, NoMemory>
+    ensures { (d : Details) → ShowsDetails d (view value.now) → IfOk result (λ found. found ≡ Some d.meta.version) }
+{
+    match text_in(value, "version") {
+        Some(text) => Version::read(alloc, text),
+        None => Ok(None),
+    }
+}
+
+fn verbatim_in(alloc: Global, value: &Value) -> Result<Option<Text>, NoMemory>
+    ensures { (d : Details) → ShowsDetails d (view value.now) → IfOk result (λ found. found ≡ Some d.meta.verbatim) }
+{
+    copy_text_in(alloc, value, "verbatimVersion")
+}
+
+fn hash_in(alloc: Global, value: &Value) -> Result<Option<Text>, NoMemory>
+    ensures { (d : Details) → ShowsDetails d (view value.now) → IfOk result (λ found. found ≡ Some d.hash) }
+{
+    copy_text_in(alloc, value, "packageHash")
+}
+
+fn tags_in(alloc: Global, value: &Value) -> Result<Many<Text>, NoMemory>
+    ensures { (d : Details) → ShowsDetails d (view value.now) → IfOk result (λ tags. tags ≡ d.meta.tags) }
+{
+    copy_texts_of(alloc, items_in(value, "tags"))
+}
+
+fn groups_in(alloc: Global, value: &Value) -> Result<Option<Many<DepGroup>>, NoMemory>
+    ensures { (d : Details) → ShowsDetails d (view value.now) → IfOk result (λ found. found ≡ Some d.meta.groups) }
+{
+    groups_of(alloc, items_in(value, "dependencyGroups"))
+}
+
+fn require_license_in(value: &Value) -> Option<bool>
+    ensures { (d : Details) → ShowsDetails d (view value.now) → result ≡ d.meta.require_license }
+{
+    flag_in(value, "requireLicenseAcceptance")
+}
+
+// The texts that details may leave out.
+#[derive(Drop)]
+struct Words {
+    authors: Option<Text>,
+    description: Option<Text>,
+    icon_url: Option<Text>,
+    license_url: Option<Text>,
+    min_client: Option<Text>,
+    project_url: Option<Text>,
+    release_notes: Option<Text>,
+    summary: Option<Text>,
+    title: Option<Text>,
+}
+
+fn words_in(alloc: Global, value: &Value) -> Result<Words, NoMemory>
+    ensures { IfOk result (λ words. words ≡ words_at (view value.now)) }
+{
+    Ok(Words {
+        authors: copy_text_in(alloc, value, "authors")?,
+        description: copy_text_in(alloc, value, "description")?,
+        icon_url: copy_text_in(alloc, value, "iconUrl")?,
+        license_url: copy_text_in(alloc, value, "licenseUrl")?,
+        min_client: copy_text_in(alloc, value, "minClientVersion")?,
+        project_url: copy_text_in(alloc, value, "projectUrl")?,
+        release_notes: copy_text_in(alloc, value, "releaseNotes")?,
+        summary: copy_text_in(alloc, value, "summary")?,
+        title: copy_text_in(alloc, value, "title")?,
+    })
+}
+
+// The metadata of an id, a version and the version's text as it was given.
+fn meta_of(
+    alloc: Global,
+    value: &Value,
+    id: PackageId,
+    version: Version,
+    verbatim: Text,
+) -> Result<Option<Meta>, NoMemory>
+    ensures { (d : Details) → ShowsDetails d (view value.now) → id ≡ d.meta.id → version ≡ d.meta.version → verbatim ≡ d.meta.verbatim
+        → IfOk result (λ found. found ≡ Some d.meta) }
+{
+    let words = words_in(alloc, value)?;
+    let tags = tags_in(alloc, value)?;
+    let Some(groups) = groups_in(alloc, value)? else {
+        return Ok(None);
+    };
+    Ok(Some(Meta {
+        id,
+        version,
+        verbatim,
+        authors: words.authors,
+        description: words.description,
+        icon_url: words.icon_url,
+        license_url: words.license_url,
+        min_client: words.min_client,
+        project_url: words.project_url,
+        release_notes: words.release_notes,
+        summary: words.summary,
+        title: words.title,
+        require_license: require_license_in(value),
+        tags,
+        groups,
+    }))
+}
+
+fn meta_in(alloc: Global, value: &Value) -> Result<Option<Meta>, NoMemory>
+    ensures { (d : Details) → ShowsDetails d (view value.now) → IfOk result (λ found. found ≡ Some d.meta) }
+{
+    let Some(id) = id_in(alloc, value)? else {
+        return Ok(None);
+    };
+    let Some(version) = version_in(alloc, value)? else {
+        return Ok(None);
+    };
+    let Some(verbatim) = verbatim_in(alloc, value)? else {
+        return Ok(None);
+    };
+    meta_of(alloc, value, id, version, verbatim)
+}
+
+/// The details that a value shows whose members are those of details, and perhaps others. Of other values something
+/// else may be read: a reader of a stored document writes what it read again, and compares.
+pub fn read_details(alloc: Global, value: &Value) -> Result<Option<Details>, NoMemory>
+    ensures shown { (d : Details) → IsDetailsValue d → ShowsDetails d (view value.now) → IfOk result (λ found. found ≡ Some d) }
+    ensures tree { (d : Details) → IsDetailsValue d → view value.now ≡ details_tree d → IfOk result (λ found. found ≡ Some d) }
+{
+    let Some(marks) = marks_in(value) else {
+        return Ok(None);
+    };
+    let Some(meta) = meta_in(alloc, value)? else {
+        return Ok(None);
+    };
+    let Some(hash) = hash_in(alloc, value)? else {
+        return Ok(None);
+    };
+    Ok(Some(Details {
+        meta,
+        listed: marks.listed,
+        created: marks.created,
+        origin_number: marks.origin.number,
+        origin_place: marks.origin.place,
+        size: marks.size,
+        hash,
+    }))
+}
