@@ -1,0 +1,17 @@
+pub mod AllCommits
+pub mod AllPuts
+pub mod Finds
+pub mod FirstArea
+pub mod Follows
+pub mod Fronts
+pub mod Grown
+pub mod LastRows
+pub mod ManyCommits
+pub mod OneLeaf
+pub mod Openings
+pub mod PlainWalk
+pub mod Plains
+pub mod RowDocs
+pub mod Simple
+pub mod Vectors
+pub mod Wholes

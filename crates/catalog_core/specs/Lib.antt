@@ -1,0 +1,10 @@
+pub mod Commits
+pub mod Errors
+pub mod Heads
+pub mod Laws
+pub mod Leaves
+pub mod Opened
+pub mod Plain
+pub mod Reads
+pub mod Verdicts
+pub mod Whole

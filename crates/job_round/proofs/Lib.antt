@@ -1,0 +1,9 @@
+pub mod Bodies
+pub mod Ends
+pub mod Keyed
+pub mod Looks
+pub mod Runs
+pub mod Settled
+pub mod Steps
+pub mod Stops
+pub mod Tops

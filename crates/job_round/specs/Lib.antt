@@ -1,0 +1,4 @@
+pub mod Errors
+pub mod Keys
+pub mod Puts
+pub mod Round
