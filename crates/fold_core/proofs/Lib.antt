@@ -1,0 +1,12 @@
+pub mod Applied
+pub mod Carries
+pub mod Changes
+pub mod Counts
+pub mod Gathered
+pub mod Lasts
+pub mod Numbers
+pub mod Origins
+pub mod Places
+pub mod Rising
+pub mod Stays
+pub mod Touches
