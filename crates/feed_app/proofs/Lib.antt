@@ -1,0 +1,17 @@
+pub mod Absent
+pub mod Calls
+pub mod Closed
+pub mod Cuts
+pub mod Endings
+pub mod Founds
+pub mod Gets
+pub mod Inits
+pub mod Jobs
+pub mod Names
+pub mod Plain
+pub mod Publishes
+pub mod Rounds
+pub mod Served
+pub mod Stops
+pub mod Tested
+pub mod Wholes

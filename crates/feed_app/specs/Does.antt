@@ -1,0 +1,27 @@
+-- What a command does.
+use Rattle.std.specs.Prelude.{◌≡◌, Option, None, Some}
+use Rattle.feed_app.specs.Commands.{Command, Init, Get, Publish, JobContent}
+use Rattle.feed_app.specs.Frame.{Meaning, IsDone, Reach, nothing}
+use Rattle.feed_app.specs.Outside.{Members, Sight}
+use Rattle.feed_app.specs.Gets.{get_meaning}
+use Rattle.feed_app.specs.Inits.{init_meaning}
+use Rattle.feed_app.specs.Jobs.{job_meaning}
+use Rattle.feed_app.specs.Publishes.{publish_meaning}
+use Rattle.feed_app.specs.declared.answer.Answer.{Answer}
+use Rattle.feed_app.specs.declared.answer.Answer.TheVariants.{Usage}
+
+abbrev pub meaning : {B : Type 0} → Members B → Command → Meaning B
+meaning m (Init base) = init_meaning m base
+meaning m Publish = publish_meaning m
+meaning m JobContent = job_meaning m
+meaning m (Get path) = get_meaning m path
+
+-- what words of this meaning may touch
+abbrev pub reach_of : {B : Type 0} → Members B → Option Command → Reach
+reach_of m None = nothing
+reach_of m (Some command) = (meaning m command).reach
+
+-- words without a meaning touch nothing
+abbrev pub Does : {B : Type 0} → Members B → Option Command → Sight B → Answer → Sight B → Type 0
+Does m None before answer after = (answer ≡ Usage) × (after ≡ before)
+Does m (Some command) before answer after = IsDone m (meaning m command) before answer after

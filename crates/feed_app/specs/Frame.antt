@@ -1,0 +1,104 @@
+-- What a command may touch, and why an answer comes: said once for all commands.
+use Rattle.std.specs.Prelude.{◌≡◌, ◌<◌, ◌⊎◌, ℕ, List, length, Option, None, IfSome, IsSome, ⊤}
+use Rattle.std.specs.FinMap.{get}
+use Rattle.blob_store.specs.Area.{Area}
+use Rattle.pkg_meta.specs.Catalog.{Catalog}
+use Rattle.catalog_doc.specs.CatDocs.{doc_at}
+use Rattle.catalog_doc.specs.declared.row.Row.{Row}
+use Rattle.catalog_core.specs.Opened.{IsFound, IsOpened}
+use Rattle.catalog_core.specs.declared.stores.Stores.{Stores}
+use Rattle.job_round.specs.Round.{IsMissing}
+use Rattle.feed_app.specs.Outside.{Members, Sight, Rose, AreaRose, area_of, held}
+use Rattle.feed_app.specs.declared.answer.Answer.{Answer}
+use Rattle.feed_app.specs.declared.answer.Answer.TheVariants.{Usage, Fault, FaultInput, Damaged, TooLong}
+use Rattle.feed_app.specs.declared.area.AreaName.{AreaName}
+use Rattle.feed_app.specs.declared.area.AreaName.TheVariants as area
+
+-- how many bytes an input has at the most
+abbrev pub most_input : ℕ
+most_input = 67108864
+
+-- what may become of a part: nothing, or it is asked, or changed
+pub data Touch : Type 0 where
+  Nothing : Touch
+  Asks : Touch
+  Changes : Touch
+
+-- what may become of each part; no command touches the output
+pub record Reach : Type 0 where
+  pub catalog : Touch
+  pub plain : Touch
+  pub semver2 : Touch
+  pub content : Touch
+  pub auto : Touch
+  pub input : Touch
+  pub clock : Touch
+
+abbrev pub nothing : Reach
+nothing = record { catalog = Nothing; plain = Nothing; semver2 = Nothing; content = Nothing; auto = Nothing; input = Nothing; clock = Nothing }
+
+abbrev pub touch_of : Reach → AreaName → Touch
+touch_of reach area.Catalog = reach.catalog
+touch_of reach area.Plain = reach.plain
+touch_of reach area.Semver2 = reach.semver2
+touch_of reach area.Content = reach.content
+touch_of reach area.Auto = reach.auto
+
+abbrev pub Touches : Touch → Type 0
+Touches Nothing = ⊥
+Touches Asks = ⊤
+Touches Changes = ⊤
+
+-- a store that isn't touched is the same value, and one that is only asked holds the same
+abbrev pub KeepsArea : {B : Type 0} → Members B → Touch → B → B → Type 0
+KeepsArea m Nothing old new = new ≡ old
+KeepsArea m Asks old new = held m new ≡ held m old
+KeepsArea m Changes old new = ⊤
+
+-- each area that isn't within reach is as it was
+pub record Keeps {B : Type 0} (m : Members B) (reach : Reach) (before after : Stores B) : Type 0 where
+  pub catalog : KeepsArea m reach.catalog before.catalog after.catalog
+  pub plain : KeepsArea m reach.plain before.plain after.plain
+  pub semver2 : KeepsArea m reach.semver2 before.semver2 after.semver2
+  pub content : KeepsArea m reach.content before.content after.content
+  pub auto : KeepsArea m reach.auto before.auto after.auto
+
+-- an input that isn't read is the same value, and so is a clock that isn't asked
+abbrev pub KeepsValue : {A : Type 0} → Touch → A → A → Type 0
+KeepsValue Nothing old new = new ≡ old
+KeepsValue Asks old new = ⊤
+KeepsValue Changes old new = ⊤
+
+-- the catalog that the area holds has a document of this name, and the area doesn't hold it
+abbrev pub IsLostDocument : Option Area → List ℕ → Type 0
+IsLostDocument told name = ((base : List ℕ) × (cs : Catalog) × IsFound told base cs × IsSome (doc_at base cs name)) × IfSome told (λ m. get m name ≡ None)
+
+-- it has an item whose leaf the area doesn't hold as such, or a publish's file of this name isn't held
+abbrev pub IsLostBlob : Option Area → List ℕ → Type 0
+IsLostBlob told name = (base : List ℕ) × (rows : List Row) × IsOpened told base rows × IsMissing told base rows name
+
+-- a blob of this area isn't held as the catalog has it
+abbrev pub IsLost : AreaName → Option Area → List ℕ → Type 0
+IsLost area.Catalog told name = IsLostDocument told name ⊎ IsLostBlob told name
+IsLost _ told name = ⊥
+
+-- why an answer of this kind came
+abbrev pub Explains : {B : Type 0} → Members B → Reach → Sight B → Answer → Sight B → Type 0
+Explains m reach before Usage after = ⊥
+Explains m reach before (Fault name) after = Touches (touch_of reach name) × AreaRose m (area_of before.stores name) (area_of after.stores name)
+Explains m reach before FaultInput after = Touches reach.input × Rose before.input after.input
+Explains m reach before (Damaged name blob) after = Touches (touch_of reach name) × IsLost name (held m (area_of before.stores name)) blob
+Explains m reach before TooLong after = Touches reach.input × IfSome before.input.told (λ body. most_input < length body)
+Explains m reach before _ after = ⊤
+
+-- a command: what it may touch, when it can be done, and what it does
+pub record Meaning (B : Type 0) : Type 1 where
+  pub reach : Reach
+  pub ready : Sight B → Type 0
+  pub acts : Sight B → Answer → Sight B → Type 0
+
+-- a command of this meaning was done, with this answer
+pub record IsDone {B : Type 0} (m : Members B) (meaning : Meaning B) (before : Sight B) (answer : Answer) (after : Sight B) : Type 0 where
+  pub keeps : Keeps m meaning.reach before.stores after.stores
+  pub explains : Explains m meaning.reach before answer after
+  pub acts : meaning.acts before answer after

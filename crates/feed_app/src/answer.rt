@@ -1,0 +1,197 @@
+// The answers of all commands, with their texts and statuses.
+ghost use Rattle.std.specs.Prelude.{◌≡◌, IfOk};
+ghost use Rattle.std.specs.Cow.{cow_slice_items};
+ghost use Rattle.feed_app.specs.Answers.{committed_text, content_text, damaged_text, exists_text, fault_text};
+
+use crate::area::AreaName;
+use pkg_meta::{Bytes, NoMemory, Text, Ticks};
+use std::alloc::Global;
+use std::borrow::CowSlice;
+
+/// What a command tells where it was done.
+#[derive(Drop)]
+pub enum Reply {
+    /// The catalog of no commits is made.
+    Initialised,
+    /// The publish is committed: the commit's number and stamp.
+    Committed { number: u32, stamp: Ticks },
+    /// The content hive is built, of a catalog of so many commits.
+    Built(u32),
+    /// There was nothing to build, of a catalog of so many commits.
+    Idle(u32),
+    /// The document has these bytes.
+    Document(Bytes),
+}
+
+/// Why a command that has a meaning was refused.
+#[derive(Clone, Copy, Debug, PartialEq, Eq)]
+pub enum Refusal {
+    /// The catalog's area holds an index already.
+    Initialised,
+    /// The catalog's area holds no index.
+    Uninitialised,
+    /// The body isn't a publish that this program reads.
+    UnsupportedBody,
+    /// The catalog isn't one that this program opens, or it is full.
+    UnsupportedCatalog,
+    /// The path names something that isn't answered yet.
+    UnsupportedPath,
+    /// The content hive is built already.
+    UnsupportedArea,
+    /// The version is there: the change's place, and the number of the version's last commit.
+    Exists { place: u32, number: u32 },
+    /// There is no moment after the last commit's.
+    ClockEnd,
+    /// There is no such document.
+    Missing,
+}
+
+/// What a command answers, by the kind of its end.
+#[derive(Drop)]
+pub enum Answer {
+    /// It was done.
+    Done(Reply),
+    /// The words have no meaning.
+    Usage,
+    /// A rule of the feed refuses it.
+    Refused(Refusal),
+    /// A call of this area's store failed.
+    Fault(AreaName),
+    /// A read of the input failed.
+    FaultInput,
+    /// The area doesn't hold the blob of this name as it is to be.
+    Damaged(AreaName, Text),
+    /// The input is too long.
+    TooLong,
+    /// Out of memory.
+    Memory,
+}
+
+fn committed_line<'a>(
+    alloc: Global,
+    number: u32,
+    stamp: Ticks,
+) -> Result<CowSlice<'a, u8, Global>, NoMemory>
+    ensures { IfOk result (λ line. cow_slice_items line ≡ committed_text number stamp) }
+{
+    let stamp = stamp.print(alloc)?;
+    let stamp = stamp.as_str();
+    let line = format!(in alloc; "committed {number} {stamp}\n")?;
+    Ok(CowSlice::Owned(line.into_bytes()))
+}
+
+fn exists_line<'a>(
+    alloc: Global,
+    place: u32,
+    number: u32,
+) -> Result<CowSlice<'a, u8, Global>, NoMemory>
+    ensures { IfOk result (λ line. cow_slice_items line ≡ exists_text place number) }
+{
+    let line = format!(in alloc; "refused exists {place} {number}\n")?;
+    Ok(CowSlice::Owned(line.into_bytes()))
+}
+
+fn fault_line<'a>(alloc: Global, area: AreaName) -> Result<CowSlice<'a, u8, Global>, NoMemory>
+    ensures { IfOk result (λ line. cow_slice_items line ≡ fault_text area) }
+{
+    let word = area.word();
+    let line = format!(in alloc; "fault {word}\n")?;
+    Ok(CowSlice::Owned(line.into_bytes()))
+}
+
+fn damaged_line<'a>(
+    alloc: Global,
+    area: AreaName,
+    blob: &str,
+) -> Result<CowSlice<'a, u8, Global>, NoMemory>
+    ensures { IfOk result (λ line. cow_slice_items line ≡ damaged_text area blob.now) }
+{
+    let word = area.word();
+    let line = format!(in alloc; "damaged {word}/{blob}\n")?;
+    Ok(CowSlice::Owned(line.into_bytes()))
+}
+
+fn content_line<'a>(
+    alloc: Global,
+    word: &str,
+    number: u32,
+) -> Result<CowSlice<'a, u8, Global>, NoMemory>
+    ensures { IfOk result (λ line. cow_slice_items line ≡ content_text word.now number) }
+{
+    let line = format!(in alloc; "{word} content {number}\n")?;
+    Ok(CowSlice::Owned(line.into_bytes()))
+}
+
+impl Reply {
+    ghost use Rattle.feed_app.specs.Answers.{reply_text};
+
+    // A document's bytes, or a line with its line feed.
+    fn text(&self, alloc: Global) -> Result<CowSlice<'_, u8, Global>, NoMemory>
+        ensures { IfOk result (λ text. cow_slice_items text ≡ reply_text self.now) }
+    {
+        match self {
+            Reply::Initialised => Ok(CowSlice::Borrowed("initialised\n".as_bytes())),
+            Reply::Committed { number, stamp } => committed_line(alloc, *number, *stamp),
+            Reply::Built(number) => content_line(alloc, "done", *number),
+            Reply::Idle(number) => content_line(alloc, "idle", *number),
+            Reply::Document(bytes) => Ok(CowSlice::Borrowed(bytes.as_slice())),
+        }
+    }
+}
+
+impl Refusal {
+    ghost use Rattle.feed_app.specs.Answers.{refusal_text};
+
+    fn text<'a>(self, alloc: Global) -> Result<CowSlice<'a, u8, Global>, NoMemory>
+        ensures { IfOk result (λ text. cow_slice_items text ≡ refusal_text self) }
+    {
+        let line = match self {
+            Refusal::Exists { place, number } => return exists_line(alloc, place, number),
+            Refusal::Initialised => "refused initialised\n",
+            Refusal::Uninitialised => "refused uninitialised\n",
+            Refusal::UnsupportedBody | Refusal::UnsupportedCatalog => "refused unsupported\n",
+            Refusal::UnsupportedPath | Refusal::UnsupportedArea => "refused unsupported\n",
+            Refusal::ClockEnd => "refused clockend\n",
+            Refusal::Missing => "refused missing\n",
+        };
+        Ok(CowSlice::Borrowed(line.as_bytes()))
+    }
+}
+
+impl Answer {
+    ghost use Rattle.feed_app.specs.Answers.{text_of, status_of};
+
+    /// What is written for it.
+    pub(crate) fn text(&self, alloc: Global) -> Result<CowSlice<'_, u8, Global>, NoMemory>
+        ensures { IfOk result (λ text. cow_slice_items text ≡ text_of self.now) }
+    {
+        let line = match self {
+            Answer::Done(reply) => return reply.text(alloc),
+            Answer::Refused(why) => return why.text(alloc),
+            Answer::Fault(area) => return fault_line(alloc, *area),
+            Answer::Damaged(area, blob) => return damaged_line(alloc, *area, blob.as_str()),
+            Answer::Usage =>
+                "usage: feed <folder> init|publish|unlist|list|delete|job|cursor|get|verify|script|generate|serve\n",
+            Answer::FaultInput => "fault input\n",
+            Answer::TooLong => "toolong\n",
+            Answer::Memory => "memory\n",
+        };
+        Ok(CowSlice::Borrowed(line.as_bytes()))
+    }
+
+    /// The status that goes with what is written.
+    pub(crate) fn status(&self) -> u8
+        ensures { result ≡ status_of self.now }
+    {
+        match self {
+            Answer::Done(_) => 0,
+            Answer::Usage => 2,
+            Answer::Refused(_) => 3,
+            Answer::Fault(_) => 4,
+            Answer::FaultInput => 5,
+            Answer::Damaged(..) => 6,
+            Answer::TooLong => 7,
+            Answer::Memory => 8,
+        }
+    }
+}

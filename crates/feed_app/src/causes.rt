@@ -1,0 +1,83 @@
+// The answers for what a lower call answers.
+ghost use Rattle.std.specs.Prelude.{◌≡◌};
+
+use crate::answer::{Answer, Refusal};
+use crate::area::AreaName;
+use catalog_core::{CommitErr, InitErr, OpenErr, ReadErr};
+use feed_base::TakeErr;
+use job_round::RoundErr;
+
+impl Answer {
+    ghost use Rattle.feed_app.specs.Causes.{take_answer, init_answer, open_answer, commit_answer, read_answer, round_answer};
+
+    /// The answer for an input that wasn't taken.
+    pub(crate) fn of_input(error: TakeErr) -> Answer
+        ensures { result ≡ take_answer error }
+    {
+        match error {
+            TakeErr::ReadFault => Answer::FaultInput,
+            TakeErr::TooLong => Answer::TooLong,
+            TakeErr::Memory => Answer::Memory,
+        }
+    }
+
+    /// The answer for a catalog that wasn't made.
+    pub(crate) fn of_init(error: InitErr) -> Answer
+        ensures { result ≡ init_answer error }
+    {
+        match error {
+            InitErr::Fault => Answer::Fault(AreaName::Catalog),
+            InitErr::Already => Answer::Refused(Refusal::Initialised),
+            InitErr::Memory => Answer::Memory,
+        }
+    }
+
+    /// The answer for a catalog that wasn't opened.
+    pub(crate) fn of_opening(error: OpenErr) -> Answer
+        ensures { result ≡ open_answer error }
+    {
+        match error {
+            OpenErr::Fault => Answer::Fault(AreaName::Catalog),
+            OpenErr::Missing => Answer::Refused(Refusal::Uninitialised),
+            OpenErr::Unsupported => Answer::Refused(Refusal::UnsupportedCatalog),
+            OpenErr::Memory => Answer::Memory,
+        }
+    }
+
+    /// The answer for a commit that wasn't made.
+    pub(crate) fn of_commit(error: CommitErr) -> Answer
+        ensures { result ≡ commit_answer error }
+    {
+        match error {
+            CommitErr::Exists(place, number) => Answer::Refused(Refusal::Exists { place, number }),
+            CommitErr::Unsupported => Answer::Refused(Refusal::UnsupportedCatalog),
+            CommitErr::ClockEnd => Answer::Refused(Refusal::ClockEnd),
+            CommitErr::Fault => Answer::Fault(AreaName::Catalog),
+            CommitErr::Memory => Answer::Memory,
+        }
+    }
+
+    /// The answer for a blob of the catalog that wasn't read.
+    pub(crate) fn of_catalog_read(error: ReadErr) -> Answer
+        ensures { result ≡ read_answer error }
+    {
+        match error {
+            ReadErr::Damaged(name) => Answer::Damaged(AreaName::Catalog, name),
+            ReadErr::Fault => Answer::Fault(AreaName::Catalog),
+            ReadErr::Memory => Answer::Memory,
+        }
+    }
+
+    /// The answer for a job of the content hive that stopped.
+    pub(crate) fn of_round(error: RoundErr) -> Answer
+        ensures { result ≡ round_answer error }
+    {
+        match error {
+            RoundErr::CatalogFault => Answer::Fault(AreaName::Catalog),
+            RoundErr::HiveFault => Answer::Fault(AreaName::Content),
+            RoundErr::Damaged(name) => Answer::Damaged(AreaName::Catalog, name),
+            RoundErr::Unsupported => Answer::Refused(Refusal::UnsupportedArea),
+            RoundErr::Memory => Answer::Memory,
+        }
+    }
+}

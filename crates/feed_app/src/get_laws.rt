@@ -1,0 +1,23 @@
+// What holds of a `get`. The function does nothing.
+ghost use Rattle.std.specs.Prelude.{◌≡◌, ℕ, List, Some};
+ghost use Rattle.feed_paths.specs.Paths.{without_query};
+ghost use Rattle.feed_app.specs.Commands.{Get, command_of};
+ghost use Rattle.feed_app.specs.Gets.{HasCatalogDocument, HasContentDocument, IsServed};
+ghost use Rattle.feed_app.specs.Outside.{AreaRose, Outside, Rose, bounds, held, output_of};
+ghost use Rattle.feed_app.specs.Runs.{Runs};
+
+use blob_store::Blobs;
+use feed_base::{Clock, Sink, Source};
+
+/// A document that is held, where neither the count of its area nor that of the catalog's or of the output rose, is
+/// written, or memory runs out.
+pub fn serves_documents<B: Blobs, I: Source, O: Sink, C: Clock>()
+    ensures catalog { let b = bounds B.Blobs I.Source O.Sink C.Clock in (words : List (List ℕ)) (path bytes : List ℕ) (before after : Outside B I O C) (status : ℕ) → Runs b words before status after
+        → command_of words ≡ Some (Get path) → HasCatalogDocument (without_query path) bytes (held b.blobs before.stores.catalog)
+        → (AreaRose b.blobs before.stores.catalog after.stores.catalog → ⊥) → (Rose (output_of b.sink before.output) (output_of b.sink after.output) → ⊥)
+        → IsServed bytes status (output_of b.sink before.output) (output_of b.sink after.output) }
+    ensures content { let b = bounds B.Blobs I.Source O.Sink C.Clock in (words : List (List ℕ)) (path bytes : List ℕ) (before after : Outside B I O C) (status : ℕ) → Runs b words before status after
+        → command_of words ≡ Some (Get path) → HasContentDocument (without_query path) bytes (held b.blobs before.stores.catalog) (held b.blobs before.stores.content)
+        → (AreaRose b.blobs before.stores.catalog after.stores.catalog → ⊥) → (AreaRose b.blobs before.stores.content after.stores.content → ⊥)
+        → (Rose (output_of b.sink before.output) (output_of b.sink after.output) → ⊥) → IsServed bytes status (output_of b.sink before.output) (output_of b.sink after.output) }
+{}

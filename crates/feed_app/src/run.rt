@@ -1,0 +1,79 @@
+// The top call.
+ghost use Rattle.std.specs.Prelude.{◌≡◌};
+ghost use Rattle.feed_app.specs.Commands.{command_of, texts};
+ghost use Rattle.feed_app.specs.Does.{Does, reach_of};
+ghost use Rattle.feed_app.specs.Frame.{KeepsValue};
+ghost use Rattle.feed_app.specs.Outside.{bounds, input_of, output_of, outside, over};
+ghost use Rattle.feed_app.specs.Runs.{Runs};
+ghost use Rattle.feed_app.specs.Writes.{Writes};
+
+use crate::answer::Answer;
+use crate::get::get;
+use crate::init::init;
+use crate::job::job;
+use crate::publish::publish;
+use crate::words::{Command, meaning_of};
+use blob_store::Blobs;
+use catalog_core::Stores;
+use feed_base::{Clock, Sink, Source, Status};
+use std::alloc::Global;
+
+// Does what the words say, but for the writing.
+fn act<B: Blobs, I: Source, C: Clock>(
+    alloc: Global,
+    words: &[String],
+    stores: Stores<B>,
+    input: &mut I,
+    clock: &mut C,
+) -> (Answer, Stores<B>)
+    ensures does { Does B.Blobs (command_of (texts words.now)) (over stores (input_of I.Source input.old) (C.answers clock.old)) result.0
+        (over result.1 (input_of I.Source input.new) (C.answers clock.new)) }
+    ensures unread { KeepsValue (reach_of B.Blobs (command_of (texts words.now))).input input.old input.new }
+    ensures unasked { KeepsValue (reach_of B.Blobs (command_of (texts words.now))).clock clock.old clock.new }
+{
+    match meaning_of(words) {
+        None => (Answer::Usage, stores),
+        Some(Command::Init(base)) => init(alloc, stores, base),
+        Some(Command::Publish) => publish(alloc, stores, input, clock),
+        Some(Command::JobContent) => job(alloc, stores),
+        Some(Command::Get(path)) => get(alloc, stores, path),
+    }
+}
+
+// Writes the text of an answer.
+fn write_answer<O: Sink>(alloc: Global, answer: &Answer, output: &mut O) -> Status
+    ensures { Writes answer.now result.number (output_of O.Sink output.old) (output_of O.Sink output.new) }
+{
+    let Ok(text) = answer.text(alloc) else {
+        return Status { number: 8 };
+    };
+    match output.write(text.as_slice()) {
+        Ok(()) => Status {
+            number: answer.status(),
+        },
+        Err(_) => Status { number: 5 },
+    }
+}
+
+/// Does what the words of a command say, on the stores and streams that are handed in, and writes the text of its
+/// answer. It knows `init` with a base address, which makes the catalog of no commits, `publish`, which commits the
+/// publish that the input holds, `job content`, which builds the content hive in an area without a cursor, and `get` with
+/// a path, which writes the bytes of the document that the path names, one of the catalog's or of the content hive's.
+///
+/// A command opens the catalog before it looks at a path or at another area. A path is cut at its first `?` and isn't
+/// decoded.
+pub fn run_command<B: Blobs, I: Source, O: Sink, C: Clock>(
+    alloc: Global,
+    words: &[String],
+    stores: Stores<B>,
+    input: &mut I,
+    output: &mut O,
+    clock: &mut C,
+) -> (Status, Stores<B>)
+    ensures { Runs (bounds B.Blobs I.Source O.Sink C.Clock) (texts words.now) (outside stores input.old output.old clock.old) result.0.number
+        (outside result.1 input.new output.new clock.new) }
+{
+    let (answer, stores) = act(alloc, words, stores, input, clock);
+    let status = write_answer(alloc, &answer, output);
+    (status, stores)
+}
