@@ -1,0 +1,13 @@
+//! Tests of the feed over stores, sources, sinks and clocks in memory, and over a folder.
+//!
+//! This crate has nothing but tests: what a clause says is proved where the function stands.
+#![tactic(auto)]
+
+#[cfg(test)]
+mod blobs;
+#[cfg(test)]
+mod commands;
+#[cfg(test)]
+mod folders;
+#[cfg(test)]
+mod outside;

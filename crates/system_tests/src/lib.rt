@@ -1,0 +1,7 @@
+//! Tests of the streams, the clock, the lock and the stores that the system gives.
+#![tactic(auto)]
+
+#[cfg(test)]
+mod folders;
+#[cfg(test)]
+mod streams;

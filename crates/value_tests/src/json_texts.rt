@@ -1,0 +1,60 @@
+// Texts that are JSON or not, and texts of one value that are its compact text or not.
+ghost use Rattle.std.specs.Prelude.{◌≡◌, false, IfOk};
+ghost use Rattle.serde_json.specs.View.{view};
+ghost use Rattle.serde_json.specs.Written.{has_float};
+
+use json_law::{is_text_of, value_of};
+use serde_json::{Value, json};
+use std::alloc::{AllocError, Global};
+use std::test::Fail;
+
+// Bytes, and whether they are a JSON text (RFC 8259).
+const TEXTS: [(&[u8], bool); 10] = [
+    (b"null", true),
+    (b"{\"a\":1,\"b\":[true,false]}", true),
+    (b" { \"a\" : \"x\" } ", true),
+    (b"", false),
+    (b"{", false),
+    (b"[1,]", false),
+    (b"{\"a\":01}", false),
+    (b"\xff", false),
+    (b"\"\xc3\"", false),
+    (b"1 1", false),
+];
+
+#[test]
+fn reads_json_alone(rt: HostRuntime) -> Result<(), Fail> {
+    for (bytes, is_json) in TEXTS {
+        let found = value_of(rt.alloc(), bytes)?;
+        assert_eq!(rt; found.is_some(), is_json, "{bytes:?}");
+    }
+    Ok(())
+}
+
+// Texts of one value, and whether they are its compact text: keys in byte order, no space.
+const SPELLINGS: [(&[u8], bool); 5] = [
+    (b"{\"A\":[1,2],\"b\":\"\\u001f\"}", true),
+    (b"{\"b\":\"\\u001f\",\"A\":[1,2]}", false),
+    (b"{\"A\":[1, 2],\"b\":\"\\u001f\"}", false),
+    (b"{\"A\":[1,2],\"b\":\"\\u001F\"}", false),
+    (b"{\"A\":[0,2],\"A\":[1,2],\"b\":\"\\u001f\"}", false),
+];
+
+fn sample(alloc: Global) -> Result<Value, AllocError>
+    ensures { IfOk result (λ v. has_float (view v) ≡ false) }
+{
+    json!(in alloc; {"A": [1, 2], "b": "\u{1f}"})
+}
+
+#[test]
+fn tells_the_compact_text(rt: HostRuntime) -> Result<(), Fail> {
+    for (bytes, is_compact) in SPELLINGS {
+        let value = sample(rt.alloc())?;
+        assert_eq!(rt;
+            is_text_of(rt.alloc(), bytes, &value)?,
+            is_compact,
+            "{bytes:?}"
+        );
+    }
+    Ok(())
+}
