@@ -347,6 +347,10 @@ pieces_full_is text f h =
     let e = exact text f h in
     rw (e.major, e.minor, e.patch, e.revision) refl
 
+pub read_full_is : (text : List ℕ) (f : Found) (h : IsFoundIn text f) (labels meta : List ℕ) → labels ≡ h.pieces.labels → meta ≡ h.pieces.meta
+    → full_of f.major.value f.minor.value f.patch.value f.revision.value labels meta ≡ pieces_full h.pieces
+read_full_is text f h labels meta labels_is meta_is = rw (labels_is, meta_is) (pieces_full_is text f h)
+
 -- and that of a version that the text spells
 pub spelled_full_is : (text : List ℕ) (f : Found) (v : Version) → SameAs text f v → (labels meta : List ℕ) → labels ≡ v.labels → meta ≡ v.meta
     → length (full_of f.major.value f.minor.value f.patch.value f.revision.value labels meta) ≤ 64

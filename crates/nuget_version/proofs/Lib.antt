@@ -10,6 +10,6 @@ pub mod Numbers
 pub mod OneAnswer
 pub mod OneValue
 pub mod Order
+pub mod Pieces
 pub mod ReadBack
-pub mod Settled
 pub mod Spelled

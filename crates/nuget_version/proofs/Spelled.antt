@@ -112,7 +112,7 @@ with-number Revision f = refl
 with-number Labels f = refl
 with-number Meta f = refl
 
-digit-is : (b : ℕ) → is_ascii_digit b ≡ true → (digit_value b ≡ b - 48) × (b - 48 ≤ 9)
+pub digit-is : (b : ℕ) → is_ascii_digit b ≡ true → (digit_value b ≡ b - 48) × (b - 48 ≤ 9)
 digit-is b h = grind arith
 
 capped-digit : (v at d : ℕ) → with_digit (capped v at) d ≡ capped (v * 10 + d) at

@@ -89,14 +89,6 @@ abbrev pub with_digit_at : Stage → Bool → ℕ → ℕ → Found → Found
 with_digit_at stage begun at digit f =
     with_number stage (if begun then with_digit (number_of stage f) digit else first_digit at digit) f
 
--- a number with the digit of this byte more, or a number that begins with it
-abbrev pub with_byte : Bool → ℕ → ℕ → Number → Number
-with_byte begun at b n = if begun then with_digit n (b - 48) else first_digit at (b - 48)
-
--- what was found, with the number that is being read in its place
-abbrev pub settled : Place → Number → Found → Found
-settled p n f = if p.begun then with_number p.stage n f else f
-
 -- what was found, and the place of a dash behind a number or of a plus
 abbrev pub with_mark : Stage → ℕ → ℕ → Found → Found
 with_mark stage at b f =
@@ -106,6 +98,10 @@ with_mark stage at b f =
 unfoldable pub note_of : Stage → Bool → ℕ → ℕ → Found → Found
 note_of stage begun at b f = if is_ascii_digit b then with_digit_at stage begun at (b - 48) f else with_mark stage at b f
 
+-- whether a byte goes on with the piece of a stage
+abbrev pub is_piece_byte : Stage → ℕ → Bool
+is_piece_byte stage b = if is_number_stage stage then is_ascii_digit b else is_part_byte b
+
 -- the text between a mark and this end, and nothing without a mark
 abbrev pub behind_of : List ℕ → Option ℕ → ℕ → List ℕ
 behind_of text None end = []
@@ -114,6 +110,11 @@ behind_of text (Some at) end = take (end - (at + 1)) (drop (at + 1) text)
 -- a number as it is kept
 abbrev pub capped : ℕ → ℕ → Number
 capped value at = record { value = min value 2147483648; at = at }
+
+-- what was found, and the bytes of a piece from this place on
+abbrev pub with_piece : Stage → ℕ → List ℕ → Found → Found
+with_piece stage at [] f = f
+with_piece stage at (b ∷ bs) f = with_number stage (capped (digits_value 10 (b ∷ bs)) at) f
 
 -- the numbers that stand behind dots, from this place on
 abbrev pub numbers_behind : ℕ → List (List ℕ) → List Number

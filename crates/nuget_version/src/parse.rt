@@ -30,23 +30,18 @@ impl Version {
         let found = checked(text)?;
         let labels = behind(text, found.dash, found.plus.unwrap_or(text.len()));
         let meta = behind(text, found.plus, text.len());
-        let numbers = numbers_len(
-            found.major.value,
-            found.minor.value,
-            found.patch.value,
-            found.revision.value,
-        );
-        let len = numbers + marked_len(labels) + marked_len(meta);
-        if len > MOST {
+        let (major, minor) = (found.major.value, found.minor.value);
+        let (patch, revision) = (found.patch.value, found.revision.value);
+        if let Some(len) = too_long(major, minor, patch, revision, labels, meta) {
             return Err(VersionErr::TooLong(len as u64));
         }
         let labels = Text::copy_of(alloc, labels)?;
         let meta = Text::copy_of(alloc, meta)?;
         Ok(Version {
-            major: found.major.value,
-            minor: found.minor.value,
-            patch: found.patch.value,
-            revision: found.revision.value,
+            major,
+            minor,
+            patch,
+            revision,
             labels,
             meta,
         })
@@ -101,6 +96,29 @@ fn behind(text: &str, mark: Option<usize>, end: usize) -> &str
         Some(at) => &text[at + 1..end],
         None => "",
     }
+}
+
+// How many bytes the full form has, where it has too many.
+fn too_long(
+    major: u32,
+    minor: u32,
+    patch: u32,
+    revision: u32,
+    labels: &str,
+    meta: &str,
+) -> Option<usize>
+    requires labels { length labels.now ≤ 64 }
+    requires meta { length meta.now ≤ 64 }
+    ensures some { IfSome result (λ len. (len ≡ length (full_of major minor patch revision labels.now meta.now)) × (64 < len)) }
+    ensures none { IfNone result (length (full_of major minor patch revision labels.now meta.now) ≤ 64) }
+{
+    // The numbers have at most 43 bytes, the marks two.
+    if labels.len() + meta.len() <= MOST - 45 {
+        return None;
+    }
+    let numbers = numbers_len(major, minor, patch, revision);
+    let len = numbers + marked_len(labels) + marked_len(meta);
+    if len > MOST { Some(len) } else { None }
 }
 
 // How many bytes the printed number has.

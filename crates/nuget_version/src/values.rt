@@ -53,6 +53,9 @@ impl Text {
     pub fn copy_of(alloc: Global, text: &str) -> Result<Self, NoMemory>
         ensures { IfOk result (λ t. t ≡ text.now) }
     {
+        if text.is_empty() {
+            return Ok(Text::of(String::new(alloc)));
+        }
         let string = String::from_str(alloc, text)?;
         Ok(Text { string })
     }

@@ -1,9 +1,11 @@
-// One pass over a version's text, byte by byte.
-ghost use Rattle.std.specs.Prelude.{◌≡◌, ◌&&◌, false, not, IfErr, IfOk, IsTrue, OnErr};
+// One pass over a version's text, piece by piece.
+ghost use Rattle.std.specs.Prelude.{◌≡◌, ◌+◌, ◌*◌, ◌<◌, ◌≤◌, false, get_or, length, min, take, IfErr, IfOk, IsTrue, OnErr};
 ghost use Rattle.std.specs.Char.{is_ascii_digit};
+ghost use Rattle.std.specs.List.{list_all};
+ghost use Rattle.std.specs.Str.Parse.{digits_value};
 ghost use Rattle.nuget_version.specs.Parts.{is_part_byte};
 ghost use Rattle.nuget_version.specs.Grammar.{IsLongestFront, IsMadeOf, IsVersionText, Pieces};
-ghost use Rattle.nuget_version.specs.Walk.{found_of, after_dot, after_plus, is_number_stage, next_in_number, next_in_part, next_of, nothing_found, place, settled, too_big_of, with_byte, with_digit, with_mark, with_number};
+ghost use Rattle.nuget_version.specs.Walk.{found_of, after_dot, after_plus, is_number_stage, is_piece_byte, next_in_number, next_in_part, next_of, nothing_found, place, too_big_of, with_mark, with_number, with_piece};
 
 // The first value above the limit of a number.
 const TOO_BIG: u32 = 2147483648;
@@ -70,20 +72,6 @@ impl Place {
         }
     }
 
-    // Whether the byte is a digit of a number.
-    fn reads_digit(self, byte: u8) -> bool
-        ensures { result ≡ (is_number_stage self.stage && is_ascii_digit byte) }
-    {
-        self.stage.is_number() && byte.is_ascii_digit()
-    }
-
-    // Whether the byte belongs to a part.
-    fn reads_part(self, byte: u8) -> bool
-        ensures { result ≡ (not (is_number_stage self.stage) && is_part_byte byte) }
-    {
-        !self.stage.is_number() && is_part_byte(byte)
-    }
-
     // The place behind a byte, and nothing where no version text goes on with it.
     #[tactic(auto, unfolding(crate::specs::Walk::next_of))]
     pub(crate) fn next(self, byte: u8) -> Option<Place>
@@ -143,37 +131,44 @@ pub(crate) struct Number {
     pub(crate) at: usize,
 }
 
-impl Number {
-    fn with_digit(self, digit: u8) -> Number
-        ensures { result ≡ with_digit self digit }
-    {
-        let value = self
-            .value
-            .saturating_mul(10)
-            .saturating_add(u32::from(digit));
-        Number {
-            value: value.min(TOO_BIG),
-            at: self.at,
+// The digits that a text begins with: their value, at most `TOO_BIG`, and how many they are.
+fn digits(text: &[u8]) -> (u32, usize)
+    ensures within { result.1 ≤ length text.now }
+    ensures bytes { IsTrue (list_all is_ascii_digit (take result.1 text.now)) }
+    ensures stops { result.1 < length text.now → is_ascii_digit (get_or text.now result.1 0) ≡ false }
+    ensures value { result.0 ≡ min (digits_value 10 (take result.1 text.now)) 2147483648 }
+{
+    let mut value: u32 = 0;
+    for at in 0..text.len() {
+        let byte = text[at];
+        if !byte.is_ascii_digit() {
+            return (value, at);
         }
+        value = with_digit(value, byte - b'0');
     }
+    (value, text.len())
 }
 
-impl Number {
-    // The number with this digit, or a number that begins with it.
-    fn goes_on(self, begun: bool, at: usize, byte: u8) -> Number
-        requires { IsTrue (is_ascii_digit byte) }
-        ensures { result ≡ with_byte begun at byte self }
-    {
-        let digit = byte - b'0';
-        if begun {
-            self.with_digit(digit)
-        } else {
-            Number {
-                value: u32::from(digit),
-                at,
-            }
+// The value with one digit more, at most `TOO_BIG`.
+fn with_digit(value: u32, digit: u8) -> u32
+    ensures { result ≡ min (value * 10 + digit) 2147483648 }
+{
+    let more = u64::from(value) * 10 + u64::from(digit);
+    more.min(u64::from(TOO_BIG)) as u32
+}
+
+// How many bytes of a part a text begins with.
+fn part_len(text: &[u8]) -> usize
+    ensures within { result ≤ length text.now }
+    ensures bytes { IsTrue (list_all is_part_byte (take result text.now)) }
+    ensures stops { result < length text.now → is_part_byte (get_or text.now result 0) ≡ false }
+{
+    for at in 0..text.len() {
+        if !is_part_byte(text[at]) {
+            return at;
         }
     }
+    text.len()
 }
 
 // What was found in a text: its numbers, 0 where they are missing, and the places of the marks.
@@ -214,23 +209,38 @@ impl Found {
         }
     }
 
-    // Puts the number that was read in its place.
-    fn settle(&mut self, place: Place, number: Number)
-        ensures { self.new ≡ settled place number self.old }
+    // Reads what a text has of the piece that begins here, and answers how many bytes it is.
+    fn read_piece(&mut self, stage: Stage, at: usize, text: &[u8]) -> usize
+        ensures within { result ≤ length text.now }
+        ensures bytes { IsTrue (list_all (is_piece_byte stage) (take result text.now)) }
+        ensures stops { result < length text.now → is_piece_byte stage (get_or text.now result 0) ≡ false }
+        ensures found { self.new ≡ with_piece stage at (take result text.now) self.old }
     {
-        if place.begun {
-            self.set_number(place.stage, number);
+        if !stage.is_number() {
+            return part_len(text);
         }
+        let (value, len) = digits(text);
+        if len > 0 {
+            self.set_number(stage, Number { value, at });
+        }
+        len
     }
 
     // Where the first number above the limit begins.
     pub(crate) fn too_big(&self) -> Option<usize>
         ensures { result ≡ too_big_of self.now }
     {
-        [self.major, self.minor, self.patch, self.revision]
-            .iter()
-            .find(|number| number.value >= TOO_BIG)
-            .map(|number| number.at)
+        if self.major.value >= TOO_BIG {
+            Some(self.major.at)
+        } else if self.minor.value >= TOO_BIG {
+            Some(self.minor.at)
+        } else if self.patch.value >= TOO_BIG {
+            Some(self.patch.at)
+        } else if self.revision.value >= TOO_BIG {
+            Some(self.revision.at)
+        } else {
+            None
+        }
     }
 
     // Notes the place of a dash behind a number, and of a plus.
@@ -252,28 +262,22 @@ pub(crate) fn walk(text: &[u8]) -> Result<Found, usize>
     ensures not_version { OnErr result (IsVersionText text.now → ⊥) }
     ensures place { IfErr result (λ at. IsLongestFront text.now at) }
 {
-    let mut place = Place::start_of(Stage::Major);
-    let mut number = Number { value: 0, at: 0 };
     let mut found = Found::nothing();
-    for (at, byte) in text.iter().enumerate() {
-        if place.reads_digit(*byte) {
-            number = number.goes_on(place.begun, at, *byte);
-            place.begun = true;
-        } else if place.reads_part(*byte) {
-            place.begun = true;
-        } else {
-            let Some(next) = place.next(*byte) else {
-                return Err(at);
-            };
-            found.settle(place, number);
-            found.note_mark(place.stage, at, *byte);
-            place = next;
+    let mut stage = Stage::Major;
+    let mut at = 0;
+    loop {
+        let len = found.read_piece(stage, at, &text[at..]);
+        let begun = len > 0;
+        at += len;
+        if at == text.len() {
+            return if begun { Ok(found) } else { Err(at) };
         }
-    }
-    if place.begun {
-        found.settle(place, number);
-        Ok(found)
-    } else {
-        Err(text.len())
+        let byte = text[at];
+        let Some(next) = (Place { stage, begun }).next(byte) else {
+            return Err(at);
+        };
+        found.note_mark(stage, at, byte);
+        stage = next.stage;
+        at += 1;
     }
 }

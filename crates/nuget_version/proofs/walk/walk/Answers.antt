@@ -1,49 +1,87 @@
-use Rattle.std.proofs.Common.{get_or, refl, sym, ◌∙◌}
-use Rattle.nuget_version.specs.Walk.{settled}
+use Rattle.std.proofs.Common.{◌<◌, ◌+◌, ℕ, length, get_or, refl, sym, ◌∙◌, subst, arith}
+use Rattle.std.specs.Prelude.{nat_lt}
+use Rattle.std.proofs.lemmas.Bool.{le-ltb, lt-ltb}
+use Rattle.nuget_version.specs.Grammar.{IsLongestFront}
+use Rattle.nuget_version.specs.Walk.{place}
 use Rattle.nuget_version.proofs.Fronts.{bad_place, end_found, end_not_version, end_place, not_version}
-use Rattle.nuget_version.proofs.Settled.{digit_step, mark_step, part_step}
+use Rattle.nuget_version.proofs.Pieces.{mark_step, piece_inside, piece_step, piece_stops}
 use Rattle.nuget_version.proofs.walk.walk.Goals as goal
-use Rattle.nuget_version.proofs.walk.walk.Goals.{then-reads_digit, else-reads_digit+then-reads_part, else-reads_digit+else-reads_part+in-Some}
+
+pub returns-then-begun-clause-found : goal.returns-then-begun-clause-found
+returns-then-begun-clause-found c =
+    let text = c.args.text.now in
+    let at = c.loop-at.at in
+    let s = c.loop-at.stage in
+    let n = c.read_piece-len.result in
+    let found = c.read_piece-len.new.self in
+    let r = c.read_piece-len.ensures in
+    let inside = piece_inside text at s c.loop-at.found found n c.loop-at.invariant.within r.within in
+    let reaches = piece_step text at s c.loop-at.found found n c.loop-at.invariant.within r.within c.loop-at.invariant.reaches r.bytes r.found in
+    end_found text (at + n) (place s (nat_lt 0 n)) found (omega arith) reaches (lt-ltb 0 n c.if-begun.true)
+
+pub returns-else-begun-clause-not_version : goal.returns-else-begun-clause-not_version
+returns-else-begun-clause-not_version c =
+    let text = c.args.text.now in
+    let at = c.loop-at.at in
+    let s = c.loop-at.stage in
+    let n = c.read_piece-len.result in
+    let found = c.read_piece-len.new.self in
+    let r = c.read_piece-len.ensures in
+    let inside = piece_inside text at s c.loop-at.found found n c.loop-at.invariant.within r.within in
+    let reaches = piece_step text at s c.loop-at.found found n c.loop-at.invariant.within r.within c.loop-at.invariant.reaches r.bytes r.found in
+    end_not_version text (at + n) (place s (nat_lt 0 n)) found (omega arith) reaches (le-ltb 0 n c.if-begun.false)
+
+pub returns-else-begun-clause-place : goal.returns-else-begun-clause-place
+returns-else-begun-clause-place c =
+    let text = c.args.text.now in
+    let at = c.loop-at.at in
+    let s = c.loop-at.stage in
+    let n = c.read_piece-len.result in
+    let found = c.read_piece-len.new.self in
+    let r = c.read_piece-len.ensures in
+    let inside = piece_inside text at s c.loop-at.found found n c.loop-at.invariant.within r.within in
+    let reaches = piece_step text at s c.loop-at.found found n c.loop-at.invariant.within r.within c.loop-at.invariant.reaches r.bytes r.found in
+    subst (λ (k : ℕ). IsLongestFront text k) (sym c.if-at-text.true) (end_place text (at + n) (place s (nat_lt 0 n)) found (omega arith) reaches)
+
+pub returns-in_default-clause-not_version : goal.returns-in_default-clause-not_version
+returns-in_default-clause-not_version c =
+    let text = c.args.text.now in
+    let at = c.loop-at.at in
+    let s = c.loop-at.stage in
+    let n = c.read_piece-len.result in
+    let found = c.read_piece-len.new.self in
+    let r = c.read_piece-len.ensures in
+    let inside = piece_inside text at s c.loop-at.found found n c.loop-at.invariant.within r.within in
+    let reaches = piece_step text at s c.loop-at.found found n c.loop-at.invariant.within r.within c.loop-at.invariant.reaches r.bytes r.found in
+    let lt : at + n < length text = omega (arith, inside) in
+    not_version text (at + n) (place s (nat_lt 0 n)) found (get_or text (at + n) 0) lt refl reaches (sym c.next.ensures ∙ c.in_default.is)
+
+pub returns-in_default-clause-place : goal.returns-in_default-clause-place
+returns-in_default-clause-place c =
+    let text = c.args.text.now in
+    let at = c.loop-at.at in
+    let s = c.loop-at.stage in
+    let n = c.read_piece-len.result in
+    let found = c.read_piece-len.new.self in
+    let r = c.read_piece-len.ensures in
+    let inside = piece_inside text at s c.loop-at.found found n c.loop-at.invariant.within r.within in
+    let reaches = piece_step text at s c.loop-at.found found n c.loop-at.invariant.within r.within c.loop-at.invariant.reaches r.bytes r.found in
+    let lt : at + n < length text = omega (arith, inside) in
+    bad_place text (at + n) (place s (nat_lt 0 n)) found (get_or text (at + n) 0) lt refl reaches (sym c.next.ensures ∙ c.in_default.is)
 
 pub loop-at-preserved : goal.loop-at-preserved
 loop-at-preserved c =
     let text = c.args.text.now in
     let at = c.loop-at.at in
-    let p = c.loop-at.place in
-    let n = c.loop-at.number in
-    let f = c.loop-at.found in
-    let b = get_or text at 0 in
-    elim c.if-reads_digit.branch [
-      | then-reads_digit w ↦
-          rw (w.place-is, w.number-is, w.found-is, w.goes_on-number.ensures)
-          (digit_step text at p n f b c.loop-at-test.true refl c.loop-at.invariant (sym c.reads_digit.ensures ∙ w.if-reads_digit.true))
-      | else-reads_digit+then-reads_part w ↦
-          rw (w.place-is, w.number-is, w.found-is)
-          (part_step text at p n f b c.loop-at-test.true refl c.loop-at.invariant (sym w.reads_part.ensures ∙ w.if-reads_part.true))
-      | else-reads_digit+else-reads_part+in-Some w ↦
-          rw (w.place-is, w.number-is, w.found-is, w.note_mark.ensures, w.settle.ensures)
-          (mark_step text at p n f b c.loop-at-test.true refl c.loop-at.invariant w.in-Some.next n (sym c.reads_digit.ensures ∙ w.if-reads_digit.false) (sym w.reads_part.ensures ∙ w.if-reads_part.false) (sym w.next.ensures ∙ w.in-Some.is))
-    ]
-
-pub returns-in_default-clause-not_version : goal.returns-in_default-clause-not_version
-returns-in_default-clause-not_version c =
-    let text = c.args.text.now in
-    not_version text c.loop-at.at c.loop-at.place (settled c.loop-at.place c.loop-at.number c.loop-at.found) (get_or text c.loop-at.at 0) c.loop-at-test.true refl c.loop-at.invariant (sym c.next.ensures ∙ c.in_default.is)
-
-pub returns-in_default-clause-place : goal.returns-in_default-clause-place
-returns-in_default-clause-place c =
-    let text = c.args.text.now in
-    bad_place text c.loop-at.at c.loop-at.place (settled c.loop-at.place c.loop-at.number c.loop-at.found) (get_or text c.loop-at.at 0) c.loop-at-test.true refl c.loop-at.invariant (sym c.next.ensures ∙ c.in_default.is)
-
-pub returns-then-place-clause-found : goal.returns-then-place-clause-found
-returns-then-place-clause-found c =
-    rw c.settle-then-place.ensures
-    (end_found c.args.text.now c.loop-at.at c.loop-at.place (settled c.loop-at.place c.loop-at.number c.loop-at.found) c.loop-at-test.false c.loop-at.invariant c.if-place.true)
-
-pub returns-else-place-clause-not_version : goal.returns-else-place-clause-not_version
-returns-else-place-clause-not_version c =
-    end_not_version c.args.text.now c.loop-at.at c.loop-at.place (settled c.loop-at.place c.loop-at.number c.loop-at.found) c.loop-at-test.false c.loop-at.invariant c.if-place.false
-
-pub returns-else-place-clause-place : goal.returns-else-place-clause-place
-returns-else-place-clause-place c =
-    end_place c.args.text.now c.loop-at.at c.loop-at.place (settled c.loop-at.place c.loop-at.number c.loop-at.found) c.loop-at-test.false c.loop-at.invariant
+    let s = c.loop-at.stage in
+    let n = c.read_piece-len.result in
+    let found = c.read_piece-len.new.self in
+    let r = c.read_piece-len.ensures in
+    let inside = piece_inside text at s c.loop-at.found found n c.loop-at.invariant.within r.within in
+    let reaches = piece_step text at s c.loop-at.found found n c.loop-at.invariant.within r.within c.loop-at.invariant.reaches r.bytes r.found in
+    let lt : at + n < length text = omega (arith, inside) in
+    let stops = piece_stops text at s c.loop-at.found found n c.loop-at.invariant.within r.within r.stops lt in
+    record {
+      within = omega arith;
+      reaches = rw c.note_mark.ensures (mark_step text (at + n) (place s (nat_lt 0 n)) found (get_or text (at + n) 0) lt refl reaches c.in-Some.next stops (sym c.next.ensures ∙ c.in-Some.is));
+    }

@@ -1,7 +1,7 @@
-use Rattle.std.proofs.Common.{◌≡◌, ℕ, length, refl, sym, ap, ◌∙◌, arith, inr}
+use Rattle.std.proofs.Common.{◌≡◌, ℕ, length, ap, ◌∙◌, arith, inr}
 use Rattle.nuget_version.specs.Parts.{is_dotted}
 use Rattle.nuget_version.specs.Walk.{behind_of}
-use Rattle.nuget_version.proofs.Fields.{exact, found_fields, full_is, labels_read, meta_read, pieces_full_is, same_as, spelled_full_is}
+use Rattle.nuget_version.proofs.Fields.{exact, found_fields, labels_read, meta_read, read_full_is, same_as, spelled_full_is}
 use Rattle.nuget_version.proofs.version.Version.parse.Goals as goal
 
 pub returns-in_err-found-clause-accepts : goal.returns-in_err-found-clause-accepts
@@ -24,27 +24,25 @@ behind-meta-requires-clause-ascii c = (found_fields c.args.text.now c.in_ok-foun
 pub behind-meta-requires-clause-before : goal.behind-meta-requires-clause-before
 behind-meta-requires-clause-before c = (found_fields c.args.text.now c.in_ok-found.found c.in_ok-found.ensures.found).meta_fits
 
-pub returns-then-len-gt-MOST-clause-refused : goal.returns-then-len-gt-MOST-clause-refused
-returns-then-len-gt-MOST-clause-refused c =
+pub returns-in-Some-clause-refused : goal.returns-in-Some-clause-refused
+returns-in-Some-clause-refused c =
     let text = c.args.text.now in
     let f = c.in_ok-found.found in
     let h = c.in_ok-found.ensures.found in
     let l = labels_read text f h c.unwrap_or.result c.behind-labels.result.now c.unwrap_or.ensures c.behind-labels.ensures.value in
     let m = meta_read text f h c.behind-meta.result.now c.behind-meta.ensures.value in
-    let len = full_is f.major.value f.minor.value f.patch.value f.revision.value h.pieces.labels c.behind-labels.result.now h.pieces.meta c.behind-meta.result.now c.numbers_len-numbers.result c.marked_len.result c.marked_len-2.result (sym l) (sym m) c.numbers_len-numbers.ensures.value c.marked_len.ensures.value c.marked_len-2.ensures.value in
-    inr (h.pieces, h.made, h.short, h.small, len ∙ ap length (pieces_full_is text f h), c.if-len-gt-MOST.true)
+    inr (h.pieces, h.made, h.short, h.small, c.in-Some.ensures.some.0 ∙ ap length (read_full_is text f h c.behind-labels.result.now c.behind-meta.result.now l m), c.in-Some.ensures.some.1)
 
-pub returns-then-len-gt-MOST-clause-accepts : goal.returns-then-len-gt-MOST-clause-accepts
-returns-then-len-gt-MOST-clause-accepts c = λ v spelled.
+pub returns-in-Some-clause-accepts : goal.returns-in-Some-clause-accepts
+returns-in-Some-clause-accepts c = λ v spelled.
     let text = c.args.text.now in
     let f = c.in_ok-found.found in
     let h = c.in_ok-found.ensures.found in
     let s = same_as text f h.pieces h.made h.found v spelled in
     let l : c.behind-labels.result.now ≡ v.labels = c.behind-labels.ensures.value ∙ ap (λ (k : ℕ). behind_of text f.dash k) c.unwrap_or.ensures ∙ s.labels in
     let m : c.behind-meta.result.now ≡ v.meta = c.behind-meta.ensures.value ∙ s.meta in
-    let len = full_is f.major.value f.minor.value f.patch.value f.revision.value c.behind-labels.result.now c.behind-labels.result.now c.behind-meta.result.now c.behind-meta.result.now c.numbers_len-numbers.result c.marked_len.result c.marked_len-2.result refl refl c.numbers_len-numbers.ensures.value c.marked_len.ensures.value c.marked_len-2.ensures.value in
     let fits = spelled_full_is text f v s c.behind-labels.result.now c.behind-meta.result.now l m in
-    absurd (omega (arith, len, fits, c.if-len-gt-MOST.true))
+    absurd (omega (arith, c.in-Some.ensures.some.0, c.in-Some.ensures.some.1, fits))
 
 pub invariant_of-result-clause-major_fits : goal.invariant_of-result-clause-major_fits
 invariant_of-result-clause-major_fits c = (exact c.args.text.now c.in_ok-found.found c.in_ok-found.ensures.found).small.major
@@ -71,10 +69,7 @@ invariant_of-result-clause-meta_dotted c =
     ap is_dotted (c.in_ok-meta.ensures ∙ m) ∙ h.made.are.meta
 
 pub invariant_of-result-clause-short : goal.invariant_of-result-clause-short
-invariant_of-result-clause-short c =
-    let f = c.in_ok-found.found in
-    let len = full_is f.major.value f.minor.value f.patch.value f.revision.value c.in_ok-labels.labels c.behind-labels.result.now c.in_ok-meta.meta c.behind-meta.result.now c.numbers_len-numbers.result c.marked_len.result c.marked_len-2.result c.in_ok-labels.ensures c.in_ok-meta.ensures c.numbers_len-numbers.ensures.value c.marked_len.ensures.value c.marked_len-2.ensures.value in
-    omega (arith, len, c.if-len-gt-MOST.false)
+invariant_of-result-clause-short c = rw (c.in_ok-labels.ensures, c.in_ok-meta.ensures) c.in_default.ensures.none
 
 pub returns-clause-ok : goal.returns-clause-ok
 returns-clause-ok c =
