@@ -4,6 +4,7 @@ ghost use Rattle.std.specs.Prelude.{◌≡◌};
 use blob_store::BlobErr;
 use pkg_meta::{NoMemory, Text};
 use std::alloc::AllocError;
+use std::fmt;
 
 /// Why a stored document wasn't read.
 #[derive(Clone, Copy, Debug, PartialEq, Eq)]
@@ -44,6 +45,68 @@ pub enum CommitErr {
     Damaged(Text),
     /// Out of memory.
     Memory,
+}
+
+impl fmt::Display for DocErr {
+    fn fmt<W: fmt::Write>(&self, f: &mut fmt::Formatter<W>) -> fmt::Result {
+        f.write_str(match self {
+            DocErr::Damaged => "the document is damaged",
+            DocErr::Memory => "out of memory",
+        })
+    }
+}
+
+impl fmt::Display for CommitErr {
+    fn fmt<W: fmt::Write>(&self, f: &mut fmt::Formatter<W>) -> fmt::Result {
+        match self {
+            CommitErr::Empty => f.write_str("there are no changes"),
+            CommitErr::TooMany(len) => {
+                write!(
+                    f,
+                    "there are {len} changes, and a commit takes 64 at the most"
+                )
+            }
+            CommitErr::Twice(place) => {
+                write!(
+                    f,
+                    "the change at place {place} is of a version that an earlier one is of"
+                )
+            }
+            CommitErr::Exists(place, number) => {
+                write!(
+                    f,
+                    "the version at place {place} is there since commit {number}"
+                )
+            }
+            CommitErr::Absent(place, number) => {
+                write!(
+                    f,
+                    "the version at place {place} isn't there since commit {number}"
+                )
+            }
+            CommitErr::Already(place, number) => {
+                write!(
+                    f,
+                    "the version at place {place} has that listing since commit {number}"
+                )
+            }
+            CommitErr::IdFull(place) => {
+                write!(
+                    f,
+                    "the id of the publish at place {place} has 2048 versions"
+                )
+            }
+            CommitErr::Full(items) => write!(f, "the catalog has {items} items and no room"),
+            CommitErr::Unsupported => f.write_str("the catalog has 512 items"),
+            CommitErr::ClockEnd => f.write_str("the last stamp is the calendar's last moment"),
+            CommitErr::Fault => f.write_str("the store failed"),
+            CommitErr::Damaged(name) => {
+                let name = name.as_str();
+                write!(f, "the blob '{name}' is damaged")
+            }
+            CommitErr::Memory => f.write_str("out of memory"),
+        }
+    }
 }
 
 impl From<NoMemory> for DocErr {

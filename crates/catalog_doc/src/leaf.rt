@@ -1,29 +1,15 @@
 // The leaf of an item.
 ghost use Rattle.std.specs.Prelude.{◌≡◌, IfOk, OnOk, string_bytes};
 ghost use Rattle.serde_json.specs.View.{view, members_view};
-ghost use Rattle.serde_json.specs.Data.{put, string};
 ghost use Rattle.pkg_meta.specs.Members.{put_slots};
 ghost use Rattle.pkg_meta.specs.declared.item.Item.TheVariants as the;
 ghost use Rattle.catalog_doc.specs.Documents.{gone_object, leaf_data, leaf_text};
 ghost use Rattle.catalog_doc.specs.Members.{commit_slots};
 
 use crate::names::{commit_id, leaf_url};
-use pkg_meta::{Bytes, Details, Item, NoMemory, PackageId, Ticks, Version};
+use pkg_meta::{Bytes, Details, Item, NoMemory, PackageId, Ticks, Version, put_text};
 use serde_json::{Map, Value, json};
 use std::alloc::{AllocError, Global};
-
-// Puts a member whose value is a text.
-fn put_text(
-    alloc: Global,
-    members: &mut Map<String, Value>,
-    key: &str,
-    text: &str,
-) -> Result<(), AllocError>
-    ensures { OnOk result (members_view members.new.entries ≡ put key.now (string text.now) (members_view members.old.entries)) }
-{
-    let value = Value::try_from_str(alloc, text)?;
-    serde_json::put(members, alloc, key, value)
-}
 
 // Puts address, kind and commit.
 fn put_commit(

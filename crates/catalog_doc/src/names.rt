@@ -72,12 +72,8 @@ pub(crate) fn page_url(alloc: Global, base: &str, page: u32) -> Result<String, A
     catalog_url(alloc, base, &name)
 }
 
-pub(crate) fn leaf_url(
-    alloc: Global,
-    base: &str,
-    number: u32,
-    place: u32,
-) -> Result<String, AllocError>
+/// Where the leaf of the item at a place of a commit is served.
+pub fn leaf_url(alloc: Global, base: &str, number: u32, place: u32) -> Result<String, AllocError>
     ensures { IfOk result (λ url. string_bytes url ≡ catalog_url base.now (leaf_name number place)) }
 {
     let name = leaf_name(alloc, number, place)?;

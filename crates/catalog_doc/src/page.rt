@@ -1,11 +1,11 @@
 // A page of the catalog.
-ghost use Rattle.std.specs.Prelude.{◌≡◌, ◌++◌, ◌∷◌, [], IfOk, length, map, string_bytes};
+ghost use Rattle.std.specs.Prelude.{◌≡◌, ◌<◌, ◌+◌, ◌^◌, ◌++◌, ◌∷◌, [], IfOk, length, map, string_bytes};
 ghost use Rattle.serde_json.specs.View.{view};
 ghost use Rattle.ticks.specs.Stamp.{stamp_text};
-ghost use Rattle.catalog_doc.specs.Documents.{commit_id, last_number, last_stamp, page_object, page_text, row_data, row_kind, row_object};
+ghost use Rattle.catalog_doc.specs.Documents.{commit_id, head_of, last_number, last_stamp, page_object, page_text, row_data, row_kind, row_object};
 ghost use Rattle.catalog_doc.specs.Names.{catalog_url, index_name, page_name};
 
-use crate::head::first_moment;
+use crate::head::{PageHead, first_moment};
 use crate::names::{commit_id, index_url, leaf_url, page_url};
 use crate::row::Row;
 use pkg_meta::{Bytes, NoMemory, Ticks};
@@ -142,6 +142,62 @@ pub fn longer_page_bytes(
     let mut values = row_values(alloc, base, rows)?;
     values.push(row_value(alloc, base, row)?)?;
     let value = page_value(alloc, base, page, row.number, row.stamp, values)?;
+    let bytes = value.to_vec(alloc)?;
+    Ok(Bytes::of(bytes))
+}
+
+fn joined_values(
+    alloc: Global,
+    base: &str,
+    rows: &[Row],
+    more: &[Row],
+) -> Result<Vec<Value>, NoMemory>
+    ensures { IfOk result (λ values. map view values.items ≡ map (row_data base.now) (rows.now ++ more.now)) }
+{
+    let mut joined = row_values(alloc, base, rows)?;
+    let mut others = row_values(alloc, base, more)?;
+    joined.append(&mut others)?;
+    Ok(joined)
+}
+
+fn last_of_joined(rows: &[Row], more: &[Row]) -> (u32, Ticks)
+    ensures number { result.0 ≡ last_number (rows.now ++ more.now) }
+    ensures stamp { result.1 ≡ last_stamp (rows.now ++ more.now) }
+{
+    if more.is_empty() {
+        last_of(rows)
+    } else {
+        last_of(more)
+    }
+}
+
+/// The head of a page with these rows and more behind them.
+pub fn joined_head(rows: &[Row], more: &[Row]) -> PageHead
+    requires few { length rows.now + length more.now < 2 ^ 32 }
+    ensures { result ≡ head_of (rows.now ++ more.now) }
+{
+    let (number, stamp) = last_of_joined(rows, more);
+    PageHead {
+        number,
+        stamp,
+        count: (rows.len() + more.len()) as u32,
+    }
+}
+
+/// The bytes of a page with these rows and more behind them.
+#[tactic(auto, unfolding(crate::specs::Documents::page_text))]
+pub fn joined_page_bytes(
+    alloc: Global,
+    base: &str,
+    page: u32,
+    rows: &[Row],
+    more: &[Row],
+) -> Result<Bytes, NoMemory>
+    ensures { IfOk result (λ b. b ≡ page_text base.now page (rows.now ++ more.now)) }
+{
+    let (number, stamp) = last_of_joined(rows, more);
+    let values = joined_values(alloc, base, rows, more)?;
+    let value = page_value(alloc, base, page, number, stamp, values)?;
     let bytes = value.to_vec(alloc)?;
     Ok(Bytes::of(bytes))
 }

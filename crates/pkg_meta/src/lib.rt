@@ -27,5 +27,6 @@ pub use package_id::PackageId;
 pub use reading::MAX_META_LEN;
 pub use state::StateDoc;
 pub use ticks::{Ticks, after};
+pub use trees::{put_addresses, put_array_if, put_text, put_text_if, text_values};
 pub use values::{copy_text_in, copy_texts_of, flag_in, items_in, text_in};
 pub use version_range::VersionRange;

@@ -16,8 +16,8 @@ use std::alloc::{AllocError, Global};
 // What is printed of an unlisted version in place of its moment.
 const UNLISTED: &str = "1900-01-01T00:00:00.0000000Z";
 
-// Puts a member whose value is a text.
-fn put_text(
+/// Puts a member whose value is a text.
+pub fn put_text(
     alloc: Global,
     members: &mut Map<String, Value>,
     key: &str,
@@ -29,8 +29,8 @@ fn put_text(
     serde_json::put(members, alloc, key, value)
 }
 
-// Puts a text where it is given.
-fn put_text_if(
+/// Puts a text where it is given.
+pub fn put_text_if(
     alloc: Global,
     members: &mut Map<String, Value>,
     key: &str,
@@ -59,8 +59,8 @@ fn put_flag_if(
     }
 }
 
-// Puts an array where it isn't empty.
-fn put_array_if(
+/// Puts an array where it isn't empty.
+pub fn put_array_if(
     alloc: Global,
     members: &mut Map<String, Value>,
     key: &str,
@@ -74,7 +74,8 @@ fn put_array_if(
     serde_json::put(members, alloc, key, Value::from(values))
 }
 
-fn text_values(alloc: Global, texts: &[Text]) -> Result<Vec<Value>, AllocError>
+/// The texts as values.
+pub fn text_values(alloc: Global, texts: &[Text]) -> Result<Vec<Value>, AllocError>
     ensures { IfOk result (λ values. map view values.items ≡ map string texts.now) }
 {
     let mut values = Vec::new(alloc);
@@ -157,8 +158,8 @@ fn put_prose(alloc: Global, members: &mut Map<String, Value>, meta: &Meta) -> Re
     Ok(())
 }
 
-// The addresses, and what a client has to heed.
-fn put_addresses(
+/// Puts the addresses, and what a client has to heed.
+pub fn put_addresses(
     alloc: Global,
     members: &mut Map<String, Value>,
     meta: &Meta,
@@ -195,16 +196,6 @@ fn meta_members(alloc: Global, meta: &Meta) -> Result<Map<String, Value>, NoMemo
     Ok(members)
 }
 
-fn published(alloc: Global, details: &Details) -> Result<Text, NoMemory>
-    ensures { IfOk result (λ t. t ≡ published_text details.now) }
-{
-    if details.listed {
-        details.created.print(alloc)
-    } else {
-        Text::copy_of(alloc, UNLISTED)
-    }
-}
-
 fn origin(alloc: Global, details: &Details) -> Result<Text, NoMemory>
     ensures { IfOk result (λ t. t ≡ origin_text details.now) }
 {
@@ -223,7 +214,7 @@ fn put_origin(
 {
     let created = details.created.print(alloc)?;
     let origin = origin(alloc, details)?;
-    let published = published(alloc, details)?;
+    let published = details.published_text(alloc)?;
     put_text(alloc, members, "created", created.as_str())?;
     put_text(alloc, members, "origin", origin.as_str())?;
     put_text(alloc, members, "published", published.as_str())?;
@@ -258,6 +249,17 @@ impl Meta {
 }
 
 impl Details {
+    /// When the version counts as published: an unlisted one in the year 1900.
+    pub fn published_text(&self, alloc: Global) -> Result<Text, NoMemory>
+        ensures { IfOk result (λ t. t ≡ published_text self.now) }
+    {
+        if self.listed {
+            self.created.print(alloc)
+        } else {
+            Text::copy_of(alloc, UNLISTED)
+        }
+    }
+
     /// The members of the details, for an object that has others too.
     pub fn members(&self, alloc: Global) -> Result<Map<String, Value>, NoMemory>
         ensures { IfOk result (λ ms. members_view ms.entries ≡ present (details_table self.now)) }
