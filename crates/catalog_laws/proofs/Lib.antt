@@ -1,0 +1,10 @@
+pub mod Alike
+pub mod ItemValues
+pub mod Items
+pub mod Kept
+pub mod Lives
+pub mod Pairs
+pub mod Reasons
+pub mod Rooms
+pub mod RowValues
+pub mod Verdicts
