@@ -1,0 +1,12 @@
+mod CatalogOpen
+mod CatalogPages
+mod CatalogSettle
+mod Ends
+mod Fitting
+mod Gets
+mod Halting
+mod Mended
+mod Mending
+mod OfCommit
+mod OpenSteps
+mod Prefixes
