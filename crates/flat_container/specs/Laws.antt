@@ -1,19 +1,17 @@
 -- The content documents have the laws of a hive's documents.
-use Rattle.std.specs.Prelude.{◌≡◌, ◌≢◌, ◌<◌, ◌+◌, ℕ, List, [], ◌∷◌, ◌++◌, length, map, flat_map, codes, Bool, true, false, not, ◌==◌, ◌&&◌, ◌||◌, Some, IsSome, if◌then◌else◌, refl}
-use Rattle.std.proofs.Common.{arith, sym, ap, ◌∙◌, subst}
+use Rattle.std.specs.Prelude.{◌≡◌, ◌≢◌, ◌<◌, ◌+◌, ℕ, List, [], ◌∷◌, ◌++◌, length, map, flat_map, codes, Bool, true, false, ◌==◌, ◌||◌, Some, IsSome, refl}
+use Rattle.std.proofs.Common.{arith, sym, ap, ◌∙◌}
 use Rattle.std.proofs.lemmas.Bool.Decides.{nat_tests}
 use Rattle.std.proofs.lemmas.List.{append_cancel_left, length-append}
-use Rattle.std.proofs.lemmas.Slice.Eq.{bytes_eq-Decides}
-use Rattle.std.specs.List.{AllByRecursion, IsDistinct, list_all, list_any}
+use Rattle.std.specs.List.{AllByRecursion, IsDistinct, list_any}
 use Rattle.std.specs.List.Sorted.{IsStrictlySortedBy}
-use Rattle.std.specs.Option.{is_some, option_map}
 use Rattle.std.specs.Str.{bytes_eq}
 use Rattle.std.specs.declared.cmp.Ordering.TheVariants.{Less}
-use Rattle.nuget_version.specs.Forms.{is_key_byte}
 use Rattle.nuget_version.specs.Precedence.{precedence}
-use Rattle.nuget_version.proofs.Forms.{key_bytes, key_filled}
-use Rattle.nuget_version.proofs.Order.{keys_tie}
-use Rattle.fold_core.specs.Docs.{before_slash, index_name, look_up, name_of, owner}
+use Rattle.nuget_version.proofs.Forms.{key-no_slash, key_filled}
+use Rattle.fold_core.specs.Docs.{before_slash, index_name, look_up, name_of}
+use Rattle.fold_core.proofs.DocNames.{apart, found_first, owner_of, whole_front}
+use Rattle.fold_core.proofs.Versions.{other_key}
 use Rattle.pkg_meta.specs.Entries.{AreRising, version_in}
 use Rattle.fold_core.specs.Laws.{AreOfEntries, AreOwned, HaveOwnNames, IsOfEntry, IsWhole, has_origin}
 use Rattle.fold_core.specs.declared.doc.Body.{Body}
@@ -21,27 +19,6 @@ use Rattle.fold_core.specs.declared.doc.Body.TheVariants.{Made, Staged as FromPu
 use Rattle.fold_core.specs.declared.doc.Doc.{Doc}
 use Rattle.pkg_meta.specs.declared.entry.Entry.{Entry}
 use Rattle.flat_container.specs.Documents.{content_docs, file_docs, index_doc, key_in}
-
-first_true : (a b : Bool) → (a && b) ≡ true → a ≡ true
-first_true true b h = refl
-first_true false b h = h
-
-second_true : (a b : Bool) → (a && b) ≡ true → b ≡ true
-second_true true b h = h
-second_true false b h = cc
-
-not_true : (b : Bool) → not b ≡ true → b ≡ false
-not_true true h = cc
-not_true false h = refl
-
-whole_front : (key rest : List ℕ) → list_all (λ (b : ℕ). not (b == 47)) key ≡ true → before_slash (key ++ (codes "/" ++ rest)) ≡ Some key
-whole_front [] rest whole = refl
-whole_front (b ∷ key) rest whole =
-    ap (λ (t : Bool). if t then Some [] else option_map (λ (front : List ℕ). b ∷ front) (before_slash (key ++ (codes "/" ++ rest)))) (not_true (b == 47) (first_true _ _ whole))
-    ∙ ap (option_map (λ (front : List ℕ). b ∷ front)) (whole_front key rest (second_true _ _ whole))
-
-owner_of : (key rest : List ℕ) → IsWhole key → owner (name_of key rest) ≡ Some key
-owner_of key rest whole = whole_front key rest whole
 
 files_owned : (key : List ℕ) (es : List Entry) → IsWhole key → AreOwned key (flat_map (file_docs key) es)
 files_owned key [] whole = tt
@@ -51,39 +28,15 @@ pub docs_owned : (base key : List ℕ) (number stamp : ℕ) (es : List Entry) �
 docs_owned base key number stamp [] whole = tt
 docs_owned base key number stamp (e ∷ es) whole = (owner_of key _ whole, files_owned key (e ∷ es) whole)
 
-not_equal : (x y : List ℕ) → x ≢ y → bytes_eq x y ≡ false
-not_equal x y other =
-    elim (bytes_eq x y) as (λ (t : Bool). bytes_eq x y ≡ t → t ≡ false) [ true ↦ λ is. absurd (other ((bytes_eq-Decides x y).0 is)) | false ↦ λ is. refl ] refl
-
 inside : (x y : List ℕ) → Some x ≡ Some y → x ≡ y
 inside x y e = cc
 
--- names with different ends differ
-apart : (key a b : List ℕ) → a ≢ b → bytes_eq (name_of key a) (name_of key b) ≡ false
-apart key a b other =
-    not_equal (name_of key a) (name_of key b) (λ e. other (append_cancel_left (codes "/") a b (append_cancel_left key (codes "/" ++ a) (codes "/" ++ b) (append_cancel_left (codes "d/") _ _ e))))
-
-key_byte_bare : (b : ℕ) → is_key_byte b ≡ true → not (b == 47) ≡ true
-key_byte_bare b h =
-    elim (b == 47) as (λ (t : Bool). (b == 47) ≡ t → not t ≡ true) [
-      | true ↦ λ is. let same : b ≡ 47 = grind (arith, nat_tests) in let wrong : is_key_byte 47 ≡ true = subst (λ (n : ℕ). is_key_byte n ≡ true) same h in cc
-      | false ↦ λ is. refl
-    ] refl
-
-bare : (text : List ℕ) → list_all is_key_byte text ≡ true → list_all (λ (b : ℕ). not (b == 47)) text ≡ true
-bare [] h = refl
-bare (b ∷ text) h =
-    ap (λ (t : Bool). t && list_all (λ (c : ℕ). not (c == 47)) text) (key_byte_bare b (first_true _ _ h)) ∙ bare text (second_true _ _ h)
-
 -- the part of a file's name before its last `/` is its version's key
 front_of : (e : Entry) (rest : List ℕ) → before_slash (key_in e ++ (codes "/" ++ rest)) ≡ Some (key_in e)
-front_of e rest = whole_front (key_in e) rest (bare (key_in e) (key_bytes (version_in e)))
+front_of e rest = whole_front (key_in e) rest (key-no_slash (version_in e))
 
 not_index : (e : Entry) (rest : List ℕ) → codes "index.json" ≢ key_in e ++ (codes "/" ++ rest)
 not_index e rest same = cc (ap before_slash same ∙ front_of e rest)
-
-other_key : (e f : Entry) → precedence (version_in e) (version_in f) ≡ Less → key_in e ≢ key_in f
-other_key e f less same = cc (sym less ∙ keys_tie (version_in e) (version_in f) same)
 
 other_version : (e f : Entry) (rest more : List ℕ) → precedence (version_in e) (version_in f) ≡ Less → key_in e ++ (codes "/" ++ rest) ≢ key_in f ++ (codes "/" ++ more)
 other_version e f rest more less same =
@@ -119,9 +72,6 @@ pub docs_distinct : (base key : List ℕ) (number stamp : ℕ) (es : List Entry)
 unfolding IsDistinct
 docs_distinct base key number stamp [] rising = tt
 docs_distinct base key number stamp (e ∷ es) rising = (index_apart key (e ∷ es), files_distinct key (e ∷ es) rising)
-
-found_first : (name : List ℕ) (d : Doc) (docs : List Doc) → name ≡ d.name → IsSome (look_up name (d ∷ docs))
-found_first name d docs same = ap (λ (t : Bool). is_some (if t then Some d.body else look_up name docs)) ((bytes_eq-Decides name d.name).1 same)
 
 pub docs_indexed : (base key : List ℕ) (number stamp : ℕ) (es : List Entry) → es ≢ [] → IsSome (look_up (index_name key) (content_docs base key number stamp es))
 docs_indexed base key number stamp [] some = absurd (some refl)

@@ -2,6 +2,7 @@ pub mod Applied
 pub mod Carries
 pub mod Changes
 pub mod Counts
+pub mod DocNames
 pub mod Gathered
 pub mod Lasts
 pub mod Numbers
@@ -10,3 +11,4 @@ pub mod Places
 pub mod Rising
 pub mod Stays
 pub mod Touches
+pub mod Versions
