@@ -1,0 +1,45 @@
+-- The names of the registration documents below an id's folder, and where they are served.
+use Rattle.std.specs.Prelude.{ℕ, List, ◌++◌, codes}
+use Rattle.nuget_version.specs.Printed.{key_text}
+use Rattle.pkg_meta.specs.Entries.{version_in}
+use Rattle.pkg_meta.specs.declared.entry.Entry.{Entry}
+use Rattle.fold_core.specs.Docs.{name_of}
+use Rattle.reg_docs.specs.declared.addresses.RegistrationHive.{RegistrationHive}
+use Rattle.reg_docs.specs.declared.addresses.RegistrationHive.TheVariants as the
+
+-- the key of an entry's version
+abbrev pub key_in : Entry → List ℕ
+key_in e = key_text (version_in e)
+
+-- where a hive's documents are served, below the feed's base address
+abbrev pub root_of : List ℕ → RegistrationHive → List ℕ
+root_of base the.Plain = base ++ codes "v3/registration/"
+root_of base the.SemVer2 = base ++ codes "v3/registration-semver2/"
+
+-- the index of the id with this key
+abbrev pub index_url : List ℕ → List ℕ → List ℕ
+index_url root key = root ++ (key ++ codes "/index.json")
+
+-- the leaf of a version, by the keys of the id and the version
+abbrev pub leaf_url : List ℕ → List ℕ → List ℕ → List ℕ
+leaf_url root key version = root ++ (key ++ (codes "/" ++ (version ++ codes ".json")))
+
+-- a stored page, by the key of the id and those of its first and its last version
+abbrev pub page_url : List ℕ → List ℕ → List ℕ → List ℕ → List ℕ
+page_url root key lower upper = root ++ (key ++ (codes "/page/" ++ (lower ++ (codes "/" ++ (upper ++ codes ".json")))))
+
+-- a page that stands in the index
+abbrev pub inlined_url : List ℕ → List ℕ → List ℕ → List ℕ → List ℕ
+inlined_url root key lower upper = root ++ (key ++ (codes "/index.json#page/" ++ (lower ++ (codes "/" ++ upper))))
+
+-- the package of a version, which the content hive serves
+abbrev pub package_url : List ℕ → List ℕ → List ℕ → List ℕ
+package_url base key version = base ++ (codes "v3/flat/" ++ (key ++ (codes "/" ++ (version ++ (codes "/" ++ (key ++ (codes "." ++ (version ++ codes ".nupkg"))))))))
+
+-- the name of a version's leaf
+abbrev pub leaf_name : List ℕ → List ℕ → List ℕ
+leaf_name key version = name_of key (version ++ codes ".json")
+
+-- the name of a stored page
+abbrev pub page_name : List ℕ → List ℕ → List ℕ → List ℕ
+page_name key lower upper = name_of key (codes "page/" ++ (lower ++ (codes "/" ++ (upper ++ codes ".json"))))
