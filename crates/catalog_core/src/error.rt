@@ -3,6 +3,7 @@ ghost use Rattle.std.specs.Prelude.{◌≡◌};
 
 use blob_store::BlobErr;
 use pkg_meta::{NoMemory, Text};
+use std::fmt;
 
 /// Why a catalog wasn't made.
 #[derive(Clone, Copy, Debug, PartialEq, Eq)]
@@ -53,6 +54,57 @@ pub enum ReadErr {
     Fault,
     /// Out of memory.
     Memory,
+}
+
+impl fmt::Display for InitErr {
+    fn fmt<W: fmt::Write>(&self, f: &mut fmt::Formatter<W>) -> fmt::Result {
+        f.write_str(match self {
+            InitErr::Fault => "the store failed",
+            InitErr::Already => "a catalog is there",
+            InitErr::Memory => "out of memory",
+        })
+    }
+}
+
+impl fmt::Display for OpenErr {
+    fn fmt<W: fmt::Write>(&self, f: &mut fmt::Formatter<W>) -> fmt::Result {
+        f.write_str(match self {
+            OpenErr::Fault => "the store failed",
+            OpenErr::Missing => "there is no catalog",
+            OpenErr::Unsupported => "the catalog isn't one that this program opens",
+            OpenErr::Memory => "out of memory",
+        })
+    }
+}
+
+impl fmt::Display for CommitErr {
+    fn fmt<W: fmt::Write>(&self, f: &mut fmt::Formatter<W>) -> fmt::Result {
+        match self {
+            CommitErr::Exists(place, number) => {
+                write!(
+                    f,
+                    "the version at place {place} is there since commit {number}"
+                )
+            }
+            CommitErr::Unsupported => f.write_str("the catalog has 512 items"),
+            CommitErr::ClockEnd => f.write_str("the last stamp is the calendar's last moment"),
+            CommitErr::Fault => f.write_str("the store failed"),
+            CommitErr::Memory => f.write_str("out of memory"),
+        }
+    }
+}
+
+impl fmt::Display for ReadErr {
+    fn fmt<W: fmt::Write>(&self, f: &mut fmt::Formatter<W>) -> fmt::Result {
+        match self {
+            ReadErr::Damaged(name) => {
+                let name = name.as_str();
+                write!(f, "the blob '{name}' is damaged")
+            }
+            ReadErr::Fault => f.write_str("the store failed"),
+            ReadErr::Memory => f.write_str("out of memory"),
+        }
+    }
 }
 
 impl From<BlobErr> for InitErr {

@@ -5,6 +5,7 @@ ghost use Rattle.job_round.specs.Errors.{hive_err_of, catalog_err_of};
 use blob_store::BlobErr;
 use catalog_core::ReadErr;
 use pkg_meta::{NoMemory, Text};
+use std::fmt;
 
 /// What a job answers.
 #[derive(Clone, Copy, Debug, PartialEq, Eq)]
@@ -28,6 +29,21 @@ pub enum RoundErr {
     Unsupported,
     /// Out of memory.
     Memory,
+}
+
+impl fmt::Display for RoundErr {
+    fn fmt<W: fmt::Write>(&self, f: &mut fmt::Formatter<W>) -> fmt::Result {
+        match self {
+            RoundErr::CatalogFault => f.write_str("the catalog's store failed"),
+            RoundErr::HiveFault => f.write_str("the hive's store failed"),
+            RoundErr::Damaged(name) => {
+                let name = name.as_str();
+                write!(f, "the catalog's blob '{name}' is damaged")
+            }
+            RoundErr::Unsupported => f.write_str("the hive's area has a cursor"),
+            RoundErr::Memory => f.write_str("out of memory"),
+        }
+    }
 }
 
 /// What a job answers where the catalog gave no answer.
