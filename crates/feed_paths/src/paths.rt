@@ -78,6 +78,3 @@ pub fn target_of(alloc: Global, path: &str) -> Result<Target<'_>, NoMemory>
 {
     named(alloc, before_query(path))
 }
-
-#[cfg(test)]
-mod tests;

@@ -1,4 +1,4 @@
-//! Tests of the feed over stores, sources, sinks and clocks in memory, and over a folder.
+//! Tests of the feed over stores, sources, sinks and clocks in memory, and over a folder; and of the paths of documents.
 //!
 //! This crate has nothing but tests: what a clause says is proved where the function stands.
 #![tactic(auto)]
@@ -11,3 +11,5 @@ mod commands;
 mod folders;
 #[cfg(test)]
 mod outside;
+#[cfg(test)]
+mod paths;
