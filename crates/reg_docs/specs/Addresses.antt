@@ -17,16 +17,16 @@ root_of base the.Plain = base ++ codes "v3/registration/"
 root_of base the.SemVer2 = base ++ codes "v3/registration-semver2/"
 
 -- the index of the id with this key
-abbrev pub index_url : List ℕ → List ℕ → List ℕ
-index_url root key = root ++ (key ++ codes "/index.json")
+abbrev pub registration_index_url : List ℕ → List ℕ → List ℕ
+registration_index_url root key = root ++ (key ++ codes "/index.json")
 
 -- the leaf of a version, by the keys of the id and the version
-abbrev pub leaf_url : List ℕ → List ℕ → List ℕ → List ℕ
-leaf_url root key version = root ++ (key ++ (codes "/" ++ (version ++ codes ".json")))
+abbrev pub registration_leaf_url : List ℕ → List ℕ → List ℕ → List ℕ
+registration_leaf_url root key version = root ++ (key ++ (codes "/" ++ (version ++ codes ".json")))
 
 -- a stored page, by the key of the id and those of its first and its last version
-abbrev pub page_url : List ℕ → List ℕ → List ℕ → List ℕ → List ℕ
-page_url root key lower upper = root ++ (key ++ (codes "/page/" ++ (lower ++ (codes "/" ++ (upper ++ codes ".json")))))
+abbrev pub registration_page_url : List ℕ → List ℕ → List ℕ → List ℕ → List ℕ
+registration_page_url root key lower upper = root ++ (key ++ (codes "/page/" ++ (lower ++ (codes "/" ++ (upper ++ codes ".json")))))
 
 -- a page that stands in the index
 abbrev pub inlined_url : List ℕ → List ℕ → List ℕ → List ℕ → List ℕ
@@ -37,9 +37,9 @@ abbrev pub package_url : List ℕ → List ℕ → List ℕ → List ℕ
 package_url base key version = base ++ (codes "v3/flat/" ++ (key ++ (codes "/" ++ (version ++ (codes "/" ++ (key ++ (codes "." ++ (version ++ codes ".nupkg"))))))))
 
 -- the name of a version's leaf
-abbrev pub leaf_name : List ℕ → List ℕ → List ℕ
-leaf_name key version = name_of key (version ++ codes ".json")
+abbrev pub registration_leaf_name : List ℕ → List ℕ → List ℕ
+registration_leaf_name key version = name_of key (version ++ codes ".json")
 
 -- the name of a stored page
-abbrev pub page_name : List ℕ → List ℕ → List ℕ → List ℕ
-page_name key lower upper = name_of key (codes "page/" ++ (lower ++ (codes "/" ++ (upper ++ codes ".json"))))
+abbrev pub registration_page_name : List ℕ → List ℕ → List ℕ → List ℕ
+registration_page_name key lower upper = name_of key (codes "page/" ++ (lower ++ (codes "/" ++ (upper ++ codes ".json"))))

@@ -12,7 +12,7 @@ use Rattle.pkg_meta.specs.declared.entry.Entry.{Entry}
 use Rattle.pkg_meta.specs.declared.item.Details.{Details}
 use Rattle.pkg_meta.specs.declared.meta.Meta.{Meta}
 use Rattle.catalog_doc.specs.Names as catalog
-use Rattle.reg_docs.specs.Addresses.{index_url}
+use Rattle.reg_docs.specs.Addresses.{registration_index_url}
 
 -- the plain hive keeps what is no SemVer 2.0.0 package
 abbrev pub keeps_plain : Details → Bool
@@ -23,27 +23,27 @@ abbrev pub keeps_every : Details → Bool
 keeps_every d = true
 
 -- a dependency: the id, the printed range, and the id's registration
-abbrev pub dep_object : List ℕ → List ℕ → List ℕ → Data
-dep_object id range registration = object
+abbrev pub entry_dep_object : List ℕ → List ℕ → List ℕ → Data
+entry_dep_object id range registration = object
     (member (codes "id") (string id)
     (member (codes "range") (string range)
     (member (codes "registration") (string registration)
     no_members)))
 
 -- its registration is that of the same hive
-abbrev pub dep_data : List ℕ → Dep → Data
-dep_data root dep = dep_object dep.id.text (range_text dep.range) (index_url root dep.id.key)
+abbrev pub entry_dep_data : List ℕ → Dep → Data
+entry_dep_data root dep = entry_dep_object dep.id.text (range_text dep.range) (registration_index_url root dep.id.key)
 
 -- a group: the dependencies, and the target framework
-abbrev pub group_slots : List ℕ → DepGroup → List Slot
-group_slots root g =
-    maybe (codes "dependencies") (array_if (map (dep_data root) g.deps))
+abbrev pub entry_group_slots : List ℕ → DepGroup → List Slot
+entry_group_slots root g =
+    maybe (codes "dependencies") (array_if (map (entry_dep_data root) g.deps))
     ∷ maybe (codes "targetFramework") (text_if g.framework)
     ∷ []
 
 -- a group as an object
-abbrev pub group_data : List ℕ → DepGroup → Data
-group_data root g = object (present (group_slots root g))
+abbrev pub entry_group_data : List ℕ → DepGroup → Data
+entry_group_data root g = object (present (entry_group_slots root g))
 
 -- the address of the catalog's leaf of an entry's item
 abbrev pub item_url : List ℕ → Entry → List ℕ
@@ -55,7 +55,7 @@ entry_slots base root e =
     let m = e.details.meta in
     always (codes "@id") (string (item_url base e))
     ∷ maybe (codes "authors") (text_if m.authors)
-    ∷ maybe (codes "dependencyGroups") (array_if (map (group_data root) m.groups))
+    ∷ maybe (codes "dependencyGroups") (array_if (map (entry_group_data root) m.groups))
     ∷ maybe (codes "description") (text_if m.description)
     ∷ maybe (codes "iconUrl") (text_if m.icon_url)
     ∷ always (codes "id") (string m.id.text)
@@ -97,4 +97,4 @@ wording_slots m =
 -- tags and dependencies
 abbrev pub array_slots : List ℕ → Meta → List Slot
 array_slots root m =
-    maybe (codes "tags") (array_if (map string m.tags)) ∷ maybe (codes "dependencyGroups") (array_if (map (group_data root) m.groups)) ∷ []
+    maybe (codes "tags") (array_if (map string m.tags)) ∷ maybe (codes "dependencyGroups") (array_if (map (entry_group_data root) m.groups)) ∷ []

@@ -18,7 +18,7 @@ use Rattle.fold_core.specs.Laws.{AreOfEntries, AreOwned, HaveOwnNames, IsOfEntry
 use Rattle.fold_core.specs.declared.doc.Doc.{Doc}
 use Rattle.pkg_meta.specs.declared.entry.Entry.{Entry}
 use Rattle.reg_docs.specs.Addresses.{key_in, root_of}
-use Rattle.reg_docs.specs.Documents.{docs_below, index_doc, leaf_doc, page_doc, page_docs, registration_docs}
+use Rattle.reg_docs.specs.Documents.{docs_below, registration_index_doc, registration_leaf_doc, registration_page_doc, registration_page_docs, registration_docs}
 use Rattle.reg_docs.specs.Pages.{cut, cut_within, first_in, form_of, is_inlined, last_in}
 use Rattle.reg_docs.specs.declared.addresses.RegistrationHive.{RegistrationHive}
 use Rattle.reg_docs.specs.Keys.{key_starts}
@@ -34,18 +34,18 @@ all_made P make holds [] = tt
 all_made P make holds (x ∷ xs) = (holds x, all_made P make holds xs)
 
 -- what holds of an index, each page and each leaf
-module _ (P : Doc → Type 0) (base root key : List ℕ) (page : (run : List Entry) → P (page_doc base root key run)) (leaf : (e : Entry) → P (leaf_doc base root key e)) where
-  all_pages : (es : List Entry) → AllByRecursion P (page_docs base root key es)
-  all_pages es = elim (is_inlined es) as (λ (t : Bool). AllByRecursion P (if t then [] else map (page_doc base root key) (cut es))) [
+module _ (P : Doc → Type 0) (base root key : List ℕ) (page : (run : List Entry) → P (registration_page_doc base root key run)) (leaf : (e : Entry) → P (registration_leaf_doc base root key e)) where
+  all_pages : (es : List Entry) → AllByRecursion P (registration_page_docs base root key es)
+  all_pages es = elim (is_inlined es) as (λ (t : Bool). AllByRecursion P (if t then [] else map (registration_page_doc base root key) (cut es))) [
     | true ↦ tt
-    | false ↦ all_made P (page_doc base root key) page (cut es)
+    | false ↦ all_made P (registration_page_doc base root key) page (cut es)
   ]
 
-  all_docs : (number stamp : ℕ) (es : List Entry) → ((es : List Entry) → P (index_doc base root key number stamp es))
+  all_docs : (number stamp : ℕ) (es : List Entry) → ((es : List Entry) → P (registration_index_doc base root key number stamp es))
       → AllByRecursion P (docs_below base root key number stamp es)
   all_docs number stamp [] index = tt
   all_docs number stamp (e ∷ es) index =
-      (index (e ∷ es), all_of_both P (page_docs base root key (e ∷ es)) (map (leaf_doc base root key) (e ∷ es)) (all_pages (e ∷ es)) (all_made P (leaf_doc base root key) leaf (e ∷ es)))
+      (index (e ∷ es), all_of_both P (registration_page_docs base root key (e ∷ es)) (map (registration_leaf_doc base root key) (e ∷ es)) (all_pages (e ∷ es)) (all_made P (registration_leaf_doc base root key) leaf (e ∷ es)))
 
 pub docs_owned : (hive : RegistrationHive) (base key : List ℕ) (number stamp : ℕ) (es : List Entry) → IsWhole key
     → AreOwned key (registration_docs hive base key number stamp es)
@@ -61,8 +61,8 @@ pub docs_indexed : (hive : RegistrationHive) (base key : List ℕ) (number stamp
     → IsSome (look_up (index_name key) (registration_docs hive base key number stamp es))
 docs_indexed hive base key number stamp [] some = absurd (some refl)
 docs_indexed hive base key number stamp (e ∷ es) some =
-    found_first (index_name key) (index_doc base (root_of base hive) key number stamp (e ∷ es))
-    (page_docs base (root_of base hive) key (e ∷ es) ++ map (leaf_doc base (root_of base hive) key) (e ∷ es)) refl
+    found_first (index_name key) (registration_index_doc base (root_of base hive) key number stamp (e ∷ es))
+    (registration_page_docs base (root_of base hive) key (e ∷ es) ++ map (registration_leaf_doc base (root_of base hive) key) (e ∷ es)) refl
 
 -- the names behind a key's folder
 abbrev leaf_end : Entry → List ℕ
@@ -81,13 +81,13 @@ not_leaf e b rest letter same =
 
 -- a name behind the folder is none of those of leaves
 none_of_leaves : (base root key r : List ℕ) (es : List Entry) → ((e : Entry) → r ≢ leaf_end e)
-    → AllByRecursion (λ y. bytes_eq (name_of key r) y ≡ false) (map (λ (d : Doc). d.name) (map (leaf_doc base root key) es))
+    → AllByRecursion (λ y. bytes_eq (name_of key r) y ≡ false) (map (λ (d : Doc). d.name) (map (registration_leaf_doc base root key) es))
 none_of_leaves base root key r [] other = tt
 none_of_leaves base root key r (e ∷ es) other = (apart key r _ (other e), none_of_leaves base root key r es other)
 
 -- nor of those of pages
 none_of_pages : (base root key r : List ℕ) (runs : List (List Entry)) → AllByRecursion (λ run. r ≢ page_end run) runs
-    → AllByRecursion (λ y. bytes_eq (name_of key r) y ≡ false) (map (λ (d : Doc). d.name) (map (page_doc base root key) runs))
+    → AllByRecursion (λ y. bytes_eq (name_of key r) y ≡ false) (map (λ (d : Doc). d.name) (map (registration_page_doc base root key) runs))
 none_of_pages base root key r [] other = tt
 none_of_pages base root key r (run ∷ runs) other = (apart key r _ other.0, none_of_pages base root key r runs other.1)
 
@@ -102,11 +102,11 @@ other_leaf : (e f : Entry) → precedence (version_in e) (version_in f) ≡ Less
 other_leaf e f less same = other_key e f less (append_cancel_right (key_in e) (key_in f) (codes ".json") same)
 
 leaves_apart : (base root key : List ℕ) (e : Entry) (es : List Entry) → AllByRecursion (λ w. precedence (version_in e) w ≡ Less) (map version_in es)
-    → AllByRecursion (λ y. bytes_eq (name_of key (leaf_end e)) y ≡ false) (map (λ (d : Doc). d.name) (map (leaf_doc base root key) es))
+    → AllByRecursion (λ y. bytes_eq (name_of key (leaf_end e)) y ≡ false) (map (λ (d : Doc). d.name) (map (registration_leaf_doc base root key) es))
 leaves_apart base root key e [] below = tt
 leaves_apart base root key e (f ∷ es) below = (apart key _ _ (other_leaf e f below.0), leaves_apart base root key e es below.1)
 
-leaves_distinct : (base root key : List ℕ) (es : List Entry) → AreRising es → HaveOwnNames (map (leaf_doc base root key) es)
+leaves_distinct : (base root key : List ℕ) (es : List Entry) → AreRising es → HaveOwnNames (map (registration_leaf_doc base root key) es)
 unfolding IsDistinct IsStrictlySortedBy
 leaves_distinct base root key [] rising = tt
 leaves_distinct base root key (e ∷ es) rising = (leaves_apart base root key e es rising.0, leaves_distinct base root key es rising.1)
@@ -150,7 +150,7 @@ others_of_runs : (e : Entry) (rest : List ℕ) (runs : List (List Entry)) → Al
 others_of_runs e rest [] above = tt
 others_of_runs e rest (run ∷ runs) above = (other_page e rest run above.0, others_of_runs e rest runs above.1)
 
-pages_distinct : (base root key : List ℕ) (n : ℕ) (es : List Entry) → AreRising es → HaveOwnNames (map (page_doc base root key) (cut_within n es))
+pages_distinct : (base root key : List ℕ) (n : ℕ) (es : List Entry) → AreRising es → HaveOwnNames (map (registration_page_doc base root key) (cut_within n es))
 unfolding IsDistinct IsStrictlySortedBy
 pages_distinct base root key zero es rising = tt
 pages_distinct base root key (suc n) [] rising = tt
@@ -161,13 +161,13 @@ pages_distinct base root key (suc n) (e ∷ es) rising = (
 
 -- lists of own names of which no name of the one is one of the other
 module _ (base root key : List ℕ) where
-  before_leaves : (runs : List (List Entry)) (es : List Entry) → HaveOwnNames (map (page_doc base root key) runs) → HaveOwnNames (map (leaf_doc base root key) es)
-      → HaveOwnNames (map (page_doc base root key) runs ++ map (leaf_doc base root key) es)
+  before_leaves : (runs : List (List Entry)) (es : List Entry) → HaveOwnNames (map (registration_page_doc base root key) runs) → HaveOwnNames (map (registration_leaf_doc base root key) es)
+      → HaveOwnNames (map (registration_page_doc base root key) runs ++ map (registration_leaf_doc base root key) es)
   unfolding IsDistinct
   before_leaves [] es pages leaves = leaves
   before_leaves (run ∷ runs) es pages leaves = (
-    subst (AllByRecursion (λ y. bytes_eq (name_of key (page_end run)) y ≡ false)) (sym (map-append (λ (d : Doc). d.name) (map (page_doc base root key) runs) (map (leaf_doc base root key) es)))
-        (all_of_both _ (map (λ (d : Doc). d.name) (map (page_doc base root key) runs)) (map (λ (d : Doc). d.name) (map (leaf_doc base root key) es)) pages.0
+    subst (AllByRecursion (λ y. bytes_eq (name_of key (page_end run)) y ≡ false)) (sym (map-append (λ (d : Doc). d.name) (map (registration_page_doc base root key) runs) (map (registration_leaf_doc base root key) es)))
+        (all_of_both _ (map (λ (d : Doc). d.name) (map (registration_page_doc base root key) runs)) (map (λ (d : Doc). d.name) (map (registration_leaf_doc base root key) es)) pages.0
         (none_of_leaves base root key (page_end run) es (λ e. not_leaf e 112 _ (omega arith)))),
     before_leaves runs es pages.1 leaves,
   )
@@ -176,16 +176,16 @@ module _ (base root key : List ℕ) where
   not_page [] = tt
   not_page (run ∷ runs) = (λ same. omega (arith, ap (λ (t : List ℕ). get_or t 0 0) same), not_page runs)
 
-  below_index : (runs : List (List Entry)) (es : List Entry) → AllByRecursion (λ y. bytes_eq (index_name key) y ≡ false) (map (λ (d : Doc). d.name) (map (page_doc base root key) runs ++ map (leaf_doc base root key) es))
+  below_index : (runs : List (List Entry)) (es : List Entry) → AllByRecursion (λ y. bytes_eq (index_name key) y ≡ false) (map (λ (d : Doc). d.name) (map (registration_page_doc base root key) runs ++ map (registration_leaf_doc base root key) es))
   below_index runs es =
-      subst (AllByRecursion (λ y. bytes_eq (index_name key) y ≡ false)) (sym (map-append (λ (d : Doc). d.name) (map (page_doc base root key) runs) (map (leaf_doc base root key) es)))
-      (all_of_both _ (map (λ (d : Doc). d.name) (map (page_doc base root key) runs)) (map (λ (d : Doc). d.name) (map (leaf_doc base root key) es))
+      subst (AllByRecursion (λ y. bytes_eq (index_name key) y ≡ false)) (sym (map-append (λ (d : Doc). d.name) (map (registration_page_doc base root key) runs) (map (registration_leaf_doc base root key) es)))
+      (all_of_both _ (map (λ (d : Doc). d.name) (map (registration_page_doc base root key) runs)) (map (λ (d : Doc). d.name) (map (registration_leaf_doc base root key) es))
       (none_of_pages base root key (codes "index.json") runs (not_page runs))
       (none_of_leaves base root key (codes "index.json") es (λ e. not_leaf e 105 _ (omega arith))))
 
   -- the stored pages are those of some runs
-  of_runs : (runs : List (List Entry)) (es : List Entry) (number stamp : ℕ) → HaveOwnNames (map (page_doc base root key) runs) → AreRising es
-      → HaveOwnNames (index_doc base root key number stamp es ∷ (map (page_doc base root key) runs ++ map (leaf_doc base root key) es))
+  of_runs : (runs : List (List Entry)) (es : List Entry) (number stamp : ℕ) → HaveOwnNames (map (registration_page_doc base root key) runs) → AreRising es
+      → HaveOwnNames (registration_index_doc base root key number stamp es ∷ (map (registration_page_doc base root key) runs ++ map (registration_leaf_doc base root key) es))
   unfolding IsDistinct
   of_runs runs es number stamp pages rising = (below_index runs es, before_leaves runs es pages (leaves_distinct base root key es rising))
 
@@ -193,7 +193,7 @@ module _ (base root key : List ℕ) where
   unfolding IsDistinct cut
   below_distinct number stamp [] rising = tt
   below_distinct number stamp (e ∷ es) rising = elim (is_inlined (e ∷ es)) as (λ (t : Bool).
-      HaveOwnNames (index_doc base root key number stamp (e ∷ es) ∷ ((if t then [] else map (page_doc base root key) (cut (e ∷ es))) ++ map (leaf_doc base root key) (e ∷ es)))) [
+      HaveOwnNames (registration_index_doc base root key number stamp (e ∷ es) ∷ ((if t then [] else map (registration_page_doc base root key) (cut (e ∷ es))) ++ map (registration_leaf_doc base root key) (e ∷ es)))) [
         | true ↦ of_runs [] (e ∷ es) number stamp tt rising
         | false ↦ of_runs (cut (e ∷ es)) (e ∷ es) number stamp (pages_distinct base root key (length (e ∷ es)) (e ∷ es) rising) rising
       ]

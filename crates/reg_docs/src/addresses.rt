@@ -1,7 +1,7 @@
 // Where documents are served, and their names.
 ghost use Rattle.std.specs.Prelude.{◌≡◌, IfOk, string_bytes};
 ghost use Rattle.fold_core.specs.Docs as docs;
-ghost use Rattle.reg_docs.specs.Addresses.{index_url, inlined_url, key_in, leaf_name, leaf_url, package_url, page_name, page_url, root_of};
+ghost use Rattle.reg_docs.specs.Addresses.{registration_index_url, inlined_url, key_in, registration_leaf_name, registration_leaf_url, package_url, registration_page_name, registration_page_url, root_of};
 
 use fold_core::{Entry, NoMemory, Text};
 use std::alloc::{AllocError, Global};
@@ -32,31 +32,35 @@ pub(crate) fn root_of(
     }
 }
 
-pub(crate) fn index_url(alloc: Global, root: &str, key: &str) -> Result<String, AllocError>
-    ensures { IfOk result (λ url. string_bytes url ≡ index_url root.now key.now) }
+pub(crate) fn registration_index_url(
+    alloc: Global,
+    root: &str,
+    key: &str,
+) -> Result<String, AllocError>
+    ensures { IfOk result (λ url. string_bytes url ≡ registration_index_url root.now key.now) }
 {
     format!(in alloc; "{root}{key}/index.json")
 }
 
-pub(crate) fn leaf_url(
+pub(crate) fn registration_leaf_url(
     alloc: Global,
     root: &str,
     key: &str,
     version: &str,
 ) -> Result<String, AllocError>
-    ensures { IfOk result (λ url. string_bytes url ≡ leaf_url root.now key.now version.now) }
+    ensures { IfOk result (λ url. string_bytes url ≡ registration_leaf_url root.now key.now version.now) }
 {
     format!(in alloc; "{root}{key}/{version}.json")
 }
 
-pub(crate) fn page_url(
+pub(crate) fn registration_page_url(
     alloc: Global,
     root: &str,
     key: &str,
     lower: &str,
     upper: &str,
 ) -> Result<String, AllocError>
-    ensures { IfOk result (λ url. string_bytes url ≡ page_url root.now key.now lower.now upper.now) }
+    ensures { IfOk result (λ url. string_bytes url ≡ registration_page_url root.now key.now lower.now upper.now) }
 {
     format!(in alloc; "{root}{key}/page/{lower}/{upper}.json")
 }
@@ -91,20 +95,24 @@ pub(crate) fn index_name(alloc: Global, key: &str) -> Result<Text, NoMemory>
     Ok(Text::of(name))
 }
 
-pub(crate) fn leaf_name(alloc: Global, key: &str, version: &str) -> Result<Text, NoMemory>
-    ensures { IfOk result (λ name. name ≡ leaf_name key.now version.now) }
+pub(crate) fn registration_leaf_name(
+    alloc: Global,
+    key: &str,
+    version: &str,
+) -> Result<Text, NoMemory>
+    ensures { IfOk result (λ name. name ≡ registration_leaf_name key.now version.now) }
 {
     let name = format!(in alloc; "d/{key}/{version}.json")?;
     Ok(Text::of(name))
 }
 
-pub(crate) fn page_name(
+pub(crate) fn registration_page_name(
     alloc: Global,
     key: &str,
     lower: &str,
     upper: &str,
 ) -> Result<Text, NoMemory>
-    ensures { IfOk result (λ name. name ≡ page_name key.now lower.now upper.now) }
+    ensures { IfOk result (λ name. name ≡ registration_page_name key.now lower.now upper.now) }
 {
     let name = format!(in alloc; "d/{key}/page/{lower}/{upper}.json")?;
     Ok(Text::of(name))

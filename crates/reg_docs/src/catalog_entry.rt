@@ -2,9 +2,9 @@
 ghost use Rattle.std.specs.Prelude.{◌≡◌, map, IfOk, OnOk, string_bytes};
 ghost use Rattle.serde_json.specs.View.{members_view, view};
 ghost use Rattle.pkg_meta.specs.Members.{present, put_slots};
-ghost use Rattle.reg_docs.specs.Entries.{array_slots, dep_data, dep_object, entry_data, entry_slots, group_data, item_url, standing_slots, wording_slots};
+ghost use Rattle.reg_docs.specs.Entries.{array_slots, entry_dep_data, entry_dep_object, entry_data, entry_slots, entry_group_data, item_url, standing_slots, wording_slots};
 
-use crate::addresses::index_url;
+use crate::addresses::registration_index_url;
 use catalog_doc::leaf_url;
 use fold_core::{Details, Entry, NoMemory};
 use pkg_meta::{
@@ -13,53 +13,57 @@ use pkg_meta::{
 use serde_json::{Map, Value, json};
 use std::alloc::{AllocError, Global};
 
-fn dep_object(
+fn entry_dep_object(
     alloc: Global,
     id: &str,
     range: &str,
     registration: String,
 ) -> Result<Value, AllocError>
-    ensures { IfOk result (λ v. view v ≡ dep_object id.now range.now (string_bytes registration)) }
+    ensures { IfOk result (λ v. view v ≡ entry_dep_object id.now range.now (string_bytes registration)) }
 {
     json!(in alloc; {"id": id, "range": range, "registration": registration})
 }
 
-fn dep_value(alloc: Global, root: &str, dep: &Dep) -> Result<Value, NoMemory>
-    ensures { IfOk result (λ v. view v ≡ dep_data root.now dep.now) }
+fn entry_dep_value(alloc: Global, root: &str, dep: &Dep) -> Result<Value, NoMemory>
+    ensures { IfOk result (λ v. view v ≡ entry_dep_data root.now dep.now) }
 {
     let range = dep.range.text(alloc)?;
-    let registration = index_url(alloc, root, dep.id.key.as_str())?;
+    let registration = registration_index_url(alloc, root, dep.id.key.as_str())?;
     let id = dep.id.text.as_str();
-    Ok(dep_object(alloc, id, range.as_str(), registration)?)
+    Ok(entry_dep_object(alloc, id, range.as_str(), registration)?)
 }
 
-fn dep_values(alloc: Global, root: &str, deps: &[Dep]) -> Result<Vec<Value>, NoMemory>
-    ensures { IfOk result (λ values. map view values.items ≡ map (dep_data root.now) deps.now) }
+fn entry_dep_values(alloc: Global, root: &str, deps: &[Dep]) -> Result<Vec<Value>, NoMemory>
+    ensures { IfOk result (λ values. map view values.items ≡ map (entry_dep_data root.now) deps.now) }
 {
     let mut values = Vec::new(alloc);
     for dep in deps {
-        let value = dep_value(alloc, root, dep)?;
+        let value = entry_dep_value(alloc, root, dep)?;
         serde_json::push(&mut values, value)?;
     }
     Ok(values)
 }
 
-fn group_value(alloc: Global, root: &str, group: &DepGroup) -> Result<Value, NoMemory>
-    ensures { IfOk result (λ v. view v ≡ group_data root.now group.now) }
+fn entry_group_value(alloc: Global, root: &str, group: &DepGroup) -> Result<Value, NoMemory>
+    ensures { IfOk result (λ v. view v ≡ entry_group_data root.now group.now) }
 {
     let mut members = Map::new(alloc);
-    let deps = dep_values(alloc, root, group.deps.as_slice())?;
+    let deps = entry_dep_values(alloc, root, group.deps.as_slice())?;
     put_array_if(alloc, &mut members, "dependencies", deps)?;
     put_text_if(alloc, &mut members, "targetFramework", &group.framework)?;
     Ok(Value::Object(members))
 }
 
-fn group_values(alloc: Global, root: &str, groups: &[DepGroup]) -> Result<Vec<Value>, NoMemory>
-    ensures { IfOk result (λ values. map view values.items ≡ map (group_data root.now) groups.now) }
+fn entry_group_values(
+    alloc: Global,
+    root: &str,
+    groups: &[DepGroup],
+) -> Result<Vec<Value>, NoMemory>
+    ensures { IfOk result (λ values. map view values.items ≡ map (entry_group_data root.now) groups.now) }
 {
     let mut values = Vec::new(alloc);
     for group in groups {
-        let value = group_value(alloc, root, group)?;
+        let value = entry_group_value(alloc, root, group)?;
         serde_json::push(&mut values, value)?;
     }
     Ok(values)
@@ -109,7 +113,7 @@ fn put_arrays(
     ensures { OnOk result (members_view members.new.entries ≡ put_slots (array_slots root.now meta.now) (members_view members.old.entries)) }
 {
     let tags = text_values(alloc, meta.tags.as_slice())?;
-    let groups = group_values(alloc, root, meta.groups.as_slice())?;
+    let groups = entry_group_values(alloc, root, meta.groups.as_slice())?;
     put_array_if(alloc, members, "tags", tags)?;
     put_array_if(alloc, members, "dependencyGroups", groups)?;
     Ok(())

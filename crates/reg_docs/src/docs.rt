@@ -1,16 +1,18 @@
 // All documents of an id.
 ghost use Rattle.std.specs.Prelude.{◌≡◌, ◌++◌, IfOk, OnOk, map};
 ghost use Rattle.reg_docs.specs.Addresses.{root_of};
-ghost use Rattle.reg_docs.specs.Documents.{docs_below, index_doc, leaf_doc, page_doc, page_docs, registration_docs};
+ghost use Rattle.reg_docs.specs.Documents.{docs_below, registration_index_doc, registration_leaf_doc, registration_page_doc, registration_page_docs, registration_docs};
 
-use crate::addresses::{RegistrationHive, index_name, key_in, leaf_name, page_name, root_of};
-use crate::index::index_bytes;
-use crate::leaf::leaf_bytes;
-use crate::page::{PAGE_LEN, is_inlined, lower_key, page_bytes, upper_key};
+use crate::addresses::{
+    RegistrationHive, index_name, key_in, registration_leaf_name, registration_page_name, root_of,
+};
+use crate::index::registration_index_bytes;
+use crate::leaf::registration_leaf_bytes;
+use crate::page::{PAGE_LEN, is_inlined, lower_key, registration_page_bytes, upper_key};
 use fold_core::{Body, Doc, Entry, Many, NoMemory, Ticks};
 use std::alloc::Global;
 
-fn index_doc(
+fn registration_index_doc(
     alloc: Global,
     base: &str,
     root: &str,
@@ -19,42 +21,42 @@ fn index_doc(
     touched_stamp: Ticks,
     entries: &[Entry],
 ) -> Result<Doc, NoMemory>
-    ensures { IfOk result (λ doc. doc ≡ index_doc base.now root.now key.now touched touched_stamp entries.now) }
+    ensures { IfOk result (λ doc. doc ≡ registration_index_doc base.now root.now key.now touched touched_stamp entries.now) }
 {
     let name = index_name(alloc, key)?;
-    let bytes = index_bytes(alloc, base, root, key, touched, touched_stamp, entries)?;
+    let bytes = registration_index_bytes(alloc, base, root, key, touched, touched_stamp, entries)?;
     let body = Body::Made(bytes);
     Ok(Doc { name, body })
 }
 
-fn page_doc(
+fn registration_page_doc(
     alloc: Global,
     base: &str,
     root: &str,
     key: &str,
     run: &[Entry],
 ) -> Result<Doc, NoMemory>
-    ensures { IfOk result (λ doc. doc ≡ page_doc base.now root.now key.now run.now) }
+    ensures { IfOk result (λ doc. doc ≡ registration_page_doc base.now root.now key.now run.now) }
 {
     let lower = lower_key(alloc, run)?;
     let upper = upper_key(alloc, run)?;
-    let name = page_name(alloc, key, lower.as_str(), upper.as_str())?;
-    let body = Body::Made(page_bytes(alloc, base, root, key, run)?);
+    let name = registration_page_name(alloc, key, lower.as_str(), upper.as_str())?;
+    let body = Body::Made(registration_page_bytes(alloc, base, root, key, run)?);
     Ok(Doc { name, body })
 }
 
-fn leaf_doc(
+fn registration_leaf_doc(
     alloc: Global,
     base: &str,
     root: &str,
     key: &str,
     entry: &Entry,
 ) -> Result<Doc, NoMemory>
-    ensures { IfOk result (λ doc. doc ≡ leaf_doc base.now root.now key.now entry.now) }
+    ensures { IfOk result (λ doc. doc ≡ registration_leaf_doc base.now root.now key.now entry.now) }
 {
     let version = key_in(alloc, entry)?;
-    let name = leaf_name(alloc, key, version.as_str())?;
-    let body = Body::Made(leaf_bytes(alloc, base, root, key, entry)?);
+    let name = registration_leaf_name(alloc, key, version.as_str())?;
+    let body = Body::Made(registration_leaf_bytes(alloc, base, root, key, entry)?);
     Ok(Doc { name, body })
 }
 
@@ -66,13 +68,13 @@ fn push_pages(
     key: &str,
     entries: &[Entry],
 ) -> Result<(), NoMemory>
-    ensures { OnOk result (docs.new ≡ docs.old ++ page_docs base.now root.now key.now entries.now) }
+    ensures { OnOk result (docs.new ≡ docs.old ++ registration_page_docs base.now root.now key.now entries.now) }
 {
     if is_inlined(entries) {
         return Ok(());
     }
     for run in entries.chunks(PAGE_LEN) {
-        docs.push(page_doc(alloc, base, root, key, run)?)?;
+        docs.push(registration_page_doc(alloc, base, root, key, run)?)?;
     }
     Ok(())
 }
@@ -85,10 +87,10 @@ fn push_leaves(
     key: &str,
     entries: &[Entry],
 ) -> Result<(), NoMemory>
-    ensures { OnOk result (docs.new ≡ docs.old ++ map (leaf_doc base.now root.now key.now) entries.now) }
+    ensures { OnOk result (docs.new ≡ docs.old ++ map (registration_leaf_doc base.now root.now key.now) entries.now) }
 {
     for entry in entries {
-        docs.push(leaf_doc(alloc, base, root, key, entry)?)?;
+        docs.push(registration_leaf_doc(alloc, base, root, key, entry)?)?;
     }
     Ok(())
 }
@@ -101,7 +103,7 @@ pub fn reg_pages(
     key: &str,
     entries: &[Entry],
 ) -> Result<Many<Doc>, NoMemory>
-    ensures { IfOk result (λ docs. docs ≡ page_docs base.now (root_of base.now hive) key.now entries.now) }
+    ensures { IfOk result (λ docs. docs ≡ registration_page_docs base.now (root_of base.now hive) key.now entries.now) }
 {
     let root = root_of(alloc, base, hive)?;
     let mut docs = Many::new(alloc);
@@ -124,7 +126,7 @@ fn docs_below(
     if entries.is_empty() {
         return Ok(docs);
     }
-    docs.push(index_doc(alloc, base, root, key, touched, touched_stamp, entries)?)?;
+    docs.push(registration_index_doc(alloc, base, root, key, touched, touched_stamp, entries)?)?;
     push_pages(alloc, &mut docs, base, root, key, entries)?;
     push_leaves(alloc, &mut docs, base, root, key, entries)?;
     Ok(docs)

@@ -2,10 +2,13 @@
 ghost use Rattle.std.specs.Prelude.{◌≡◌, IfOk, map, string_bytes};
 ghost use Rattle.serde_json.specs.View.{view};
 ghost use Rattle.nuget_version.specs.Printed.{key_text, normal_text};
-ghost use Rattle.reg_docs.specs.Documents.{head_data, head_object, in_index, inlined_at, listed_data, listed_object, page_data, page_object, page_text, pages_data, stored_at};
+ghost use Rattle.reg_docs.specs.Documents.{registration_head_data, registration_head_object, in_index, inlined_at, listed_data, listed_object, registration_page_data, registration_page_object, registration_page_text, pages_data, stored_at};
 ghost use Rattle.reg_docs.specs.Pages.{first_in, form_of, is_inlined, last_in};
 
-use crate::addresses::{index_url, inlined_url, key_in, leaf_url, package_url, page_url};
+use crate::addresses::{
+    inlined_url, key_in, package_url, registration_index_url, registration_leaf_url,
+    registration_page_url,
+};
 use crate::catalog_entry::entry_value;
 use fold_core::{Bytes, Entry, NoMemory, Text};
 use serde_json::{Value, json};
@@ -80,7 +83,7 @@ fn listed_value(
     ensures { IfOk result (λ v. view v ≡ listed_data base.now root.now key.now entry.now) }
 {
     let version = key_in(alloc, entry)?;
-    let url = leaf_url(alloc, root, key, version.as_str())?;
+    let url = registration_leaf_url(alloc, root, key, version.as_str())?;
     let content = package_url(alloc, base, key, version.as_str())?;
     let value = entry_value(alloc, base, root, entry)?;
     Ok(listed_object(alloc, url, value, content)?)
@@ -103,7 +106,7 @@ fn listed_values(
     Ok(values)
 }
 
-fn page_object(
+fn registration_page_object(
     alloc: Global,
     url: String,
     count: usize,
@@ -112,7 +115,7 @@ fn page_object(
     parent: String,
     upper: Text,
 ) -> Result<Value, AllocError>
-    ensures { IfOk result (λ v. view v ≡ page_object (string_bytes url) count (map view listed.items) lower (string_bytes parent) upper) }
+    ensures { IfOk result (λ v. view v ≡ registration_page_object (string_bytes url) count (map view listed.items) lower (string_bytes parent) upper) }
 {
     let lower = lower.into_string();
     let upper = upper.into_string();
@@ -126,7 +129,7 @@ fn page_object(
     })
 }
 
-fn page_value(
+fn registration_page_value(
     alloc: Global,
     url: String,
     base: &str,
@@ -134,13 +137,13 @@ fn page_value(
     key: &str,
     run: &[Entry],
 ) -> Result<Value, NoMemory>
-    ensures { IfOk result (λ v. view v ≡ page_data (string_bytes url) base.now root.now key.now run.now) }
+    ensures { IfOk result (λ v. view v ≡ registration_page_data (string_bytes url) base.now root.now key.now run.now) }
 {
     let listed = listed_values(alloc, base, root, key, run)?;
     let lower = lower(alloc, run)?;
     let upper = upper(alloc, run)?;
-    let parent = index_url(alloc, root, key)?;
-    Ok(page_object(alloc, url, run.len(), listed, lower, parent, upper)?)
+    let parent = registration_index_url(alloc, root, key)?;
+    Ok(registration_page_object(alloc, url, run.len(), listed, lower, parent, upper)?)
 }
 
 fn inlined_at(alloc: Global, root: &str, key: &str, run: &[Entry]) -> Result<String, NoMemory>
@@ -156,34 +159,39 @@ fn stored_at(alloc: Global, root: &str, key: &str, run: &[Entry]) -> Result<Stri
 {
     let lower = lower_key(alloc, run)?;
     let upper = upper_key(alloc, run)?;
-    Ok(page_url(alloc, root, key, lower.as_str(), upper.as_str())?)
+    Ok(registration_page_url(alloc, root, key, lower.as_str(), upper.as_str())?)
 }
 
-fn head_object(
+fn registration_head_object(
     alloc: Global,
     url: String,
     count: usize,
     lower: Text,
     upper: Text,
 ) -> Result<Value, AllocError>
-    ensures { IfOk result (λ v. view v ≡ head_object (string_bytes url) count lower upper) }
+    ensures { IfOk result (λ v. view v ≡ registration_head_object (string_bytes url) count lower upper) }
 {
     let lower = lower.into_string();
     let upper = upper.into_string();
     json!(in alloc; {"@id": url, "count": count, "lower": lower, "upper": upper})
 }
 
-fn head_value(alloc: Global, root: &str, key: &str, run: &[Entry]) -> Result<Value, NoMemory>
-    ensures { IfOk result (λ v. view v ≡ head_data root.now key.now run.now) }
+fn registration_head_value(
+    alloc: Global,
+    root: &str,
+    key: &str,
+    run: &[Entry],
+) -> Result<Value, NoMemory>
+    ensures { IfOk result (λ v. view v ≡ registration_head_data root.now key.now run.now) }
 {
     let url = stored_at(alloc, root, key, run)?;
     let lower = lower(alloc, run)?;
     let upper = upper(alloc, run)?;
-    Ok(head_object(alloc, url, run.len(), lower, upper)?)
+    Ok(registration_head_object(alloc, url, run.len(), lower, upper)?)
 }
 
 // A page as the index has it.
-fn index_value(
+fn in_index(
     alloc: Global,
     inlined: bool,
     base: &str,
@@ -194,10 +202,10 @@ fn index_value(
     ensures { IfOk result (λ v. view v ≡ in_index inlined base.now root.now key.now run.now) }
 {
     if !inlined {
-        return head_value(alloc, root, key, run);
+        return registration_head_value(alloc, root, key, run);
     }
     let url = inlined_at(alloc, root, key, run)?;
-    page_value(alloc, url, base, root, key, run)
+    registration_page_value(alloc, url, base, root, key, run)
 }
 
 /// The pages of the index.
@@ -213,25 +221,25 @@ pub(crate) fn page_values(
     let inlined = is_inlined(entries);
     let mut values = Vec::new(alloc);
     for run in entries.chunks(PAGE_LEN) {
-        let value = index_value(alloc, inlined, base, root, key, run)?;
+        let value = in_index(alloc, inlined, base, root, key, run)?;
         serde_json::push(&mut values, value)?;
     }
     Ok(values)
 }
 
 /// The bytes of a stored page.
-#[tactic(auto, unfolding(crate::specs::Documents::page_text))]
-pub(crate) fn page_bytes(
+#[tactic(auto, unfolding(crate::specs::Documents::registration_page_text))]
+pub(crate) fn registration_page_bytes(
     alloc: Global,
     base: &str,
     root: &str,
     key: &str,
     run: &[Entry],
 ) -> Result<Bytes, NoMemory>
-    ensures { IfOk result (λ b. b ≡ page_text base.now root.now key.now run.now) }
+    ensures { IfOk result (λ b. b ≡ registration_page_text base.now root.now key.now run.now) }
 {
     let url = stored_at(alloc, root, key, run)?;
-    let value = page_value(alloc, url, base, root, key, run)?;
+    let value = registration_page_value(alloc, url, base, root, key, run)?;
     let bytes = value.to_vec(alloc)?;
     Ok(Bytes::of(bytes))
 }

@@ -1,12 +1,12 @@
 use Rattle.std.proofs.Common.{◌≡◌, ap, ◌∙◌, false}
 use Rattle.serde_json.specs.View.{view}
 use Rattle.serde_json.specs.Written.{has_float, compact_text}
-use Rattle.reg_docs.specs.Documents.{index_text}
+use Rattle.reg_docs.specs.Documents.{registration_index_text}
 use Rattle.reg_docs.proofs.NoFloats.{index_plain}
-use Rattle.reg_docs.proofs.index.index_bytes.Goals as goal
+use Rattle.reg_docs.proofs.index.registration_index_bytes.Goals as goal
 
 pub returns : goal.returns
-unfolding index_text
+unfolding registration_index_text
 returns c =
     let plain : has_float (view c.in_ok-value.value) ≡ false =
     ap has_float c.in_ok-value.ensures ∙ index_plain c.args.base.now c.args.root.now c.args.key.now c.args.touched c.args.touched_stamp c.args.entries.now in
