@@ -1,4 +1,6 @@
 // The rows of the first publish, and those of a delete behind them.
+ghost use Rattle.std.specs.Prelude.{◌≡◌, IfOk, length};
+
 use crate::openings::{INDEX, PAGE, store};
 use catalog_doc::{Change, CommitErr, Row};
 use catalog_opening::read_catalog;
@@ -27,7 +29,9 @@ fn publish(alloc: Global) -> Result<Vec<Change>, NoMemory> {
     Ok(changes)
 }
 
-fn delete(alloc: Global, id: &PackageId, version: &Version) -> Result<Many<Row>, NoMemory> {
+fn delete(alloc: Global, id: &PackageId, version: &Version) -> Result<Many<Row>, NoMemory>
+    ensures { IfOk result (λ rows. length rows ≡ 1) }
+{
     let mut rows = Many::new(alloc);
     rows.push(Row {
         number: 2,
@@ -40,15 +44,23 @@ fn delete(alloc: Global, id: &PackageId, version: &Version) -> Result<Many<Row>,
     Ok(rows)
 }
 
+fn reason(alloc: Global, rows: &Rows, changes: &[Change]) -> Result<String, NoMemory> {
+    let found = match shape_refusal(changes) {
+        Some(error) => Some(error),
+        None => rows.refusal(alloc, changes)?,
+    };
+    match found {
+        Some(CommitErr::Exists(place, number)) => Ok(format!(in alloc; "exists {place} {number}")?),
+        Some(error) => Ok(format!(in alloc; "{error}")?),
+        None => Ok(String::from_str(alloc, "none")?),
+    }
+}
+
 fn line(alloc: Global, rows: &Rows, id: &PackageId, version: &Version) -> Result<String, NoMemory> {
     let last = rows.last(alloc, id, version)?.map_or(0, |row| row.number);
     let (live, count, page) = (rows.live(id), rows.len(), rows.last_page().len());
     let next = rows.next_number();
-    let why = match rows.refusal(alloc, &publish(alloc)?)? {
-        Some(CommitErr::Exists(place, number)) => format!(in alloc; "exists {place} {number}")?,
-        Some(error) => format!(in alloc; "{error}")?,
-        None => String::from_str(alloc, "none")?,
-    };
+    let why = reason(alloc, rows, &publish(alloc)?)?;
     Ok(format!(in alloc; "{last} {live} {count} {page} {why}, {next}\n")?)
 }
 
