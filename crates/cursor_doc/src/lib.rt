@@ -12,8 +12,6 @@
 mod laws;
 mod mark;
 mod reading;
-#[cfg(test)]
-mod tests;
 mod writing;
 
 pub use catalog_doc::DocErr;

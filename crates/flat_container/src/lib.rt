@@ -4,8 +4,6 @@
 mod content;
 mod docs;
 mod index;
-#[cfg(test)]
-mod tests;
 
 pub use content::Content;
 pub use fold_core::{

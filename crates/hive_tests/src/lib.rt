@@ -1,8 +1,10 @@
-//! Tables of catalogs, against the registration documents that both hives make of them from scratch.
+//! Tables of catalogs, against the documents that the content hive and both registration hives make of them from scratch.
 #![tactic(auto)]
 
 #[cfg(test)]
 mod catalogs;
+#[cfg(test)]
+mod content;
 #[cfg(test)]
 mod pages;
 #[cfg(test)]

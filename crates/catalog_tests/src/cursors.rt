@@ -1,4 +1,5 @@
-use crate::{DocErr, Mark, cursor_bytes, read_cursor};
+// The documents of cursors, and what isn't one.
+use cursor_doc::{DocErr, Mark, cursor_bytes, read_cursor};
 use pkg_meta::Ticks;
 use std::test::Fail;
 

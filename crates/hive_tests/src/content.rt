@@ -1,0 +1,115 @@
+// The content hive's documents of publishes, an unlisting, a delete and a publish again.
+use crate::catalogs::{commit, details, text_of};
+use flat_container::{Body, Content, Hive, HiveName};
+use fold_core::{Commit, Doc, Item, Many, NoMemory, docs_from_scratch};
+use std::alloc::{AllocError, Global};
+use std::test::Fail;
+
+const RELEASE: &str = r#"{"id":"Foo","version":"1.10.0-RC"}"#;
+
+const SHORT: &str = r#"{"id":"Foo","version":"1.2"}"#;
+
+const OTHER: &str = r#"{"id":"Bar.Core","version":"1.0.0"}"#;
+
+const AGAIN: &str = r#"{"id":"Foo","version":"1.10.0-rc+x"}"#;
+
+// Name by name what each document is: a text, or the number and place of a publish whose package or manifest it is.
+const BOTH: &str = "\
+d/foo/index.json {\"versions\":[\"1.2.0\",\"1.10.0-rc\"]}
+d/foo/1.2.0/foo.1.2.0.nupkg package 1 1
+d/foo/1.2.0/foo.nuspec manifest 1 1
+d/foo/1.10.0-rc/foo.1.10.0-rc.nupkg package 1 0
+d/foo/1.10.0-rc/foo.nuspec manifest 1 0
+";
+
+const DELETED: &str = "\
+d/foo/index.json {\"versions\":[\"1.2.0\"]}
+d/foo/1.2.0/foo.1.2.0.nupkg package 1 1
+d/foo/1.2.0/foo.nuspec manifest 1 1
+";
+
+const PUBLISHED_AGAIN: &str = "\
+d/foo/index.json {\"versions\":[\"1.2.0\",\"1.10.0-rc\"]}
+d/foo/1.2.0/foo.1.2.0.nupkg package 1 1
+d/foo/1.2.0/foo.nuspec manifest 1 1
+d/foo/1.10.0-rc/foo.1.10.0-rc.nupkg package 4 0
+d/foo/1.10.0-rc/foo.nuspec manifest 4 0
+";
+
+const OF_BAR: &str = "\
+d/bar.core/index.json {\"versions\":[\"1.0.0\"]}
+d/bar.core/1.0.0/bar.core.1.0.0.nupkg package 1 2
+d/bar.core/1.0.0/bar.core.nuspec manifest 1 2
+";
+
+// Three publishes, an unlisting of the second, a delete of the first, and a publish of it again.
+fn catalog(alloc: Global) -> Result<Vec<Commit>, NoMemory> {
+    let mut publishes = Many::new(alloc);
+    for (place, text) in (0..3).zip([RELEASE, SHORT, OTHER]) {
+        publishes.push(Item::Details(details(alloc, text, 1, place)?))?;
+    }
+    let mut unlisted = details(alloc, SHORT, 1, 1)?;
+    unlisted.listed = false;
+    let gone = details(alloc, RELEASE, 1, 0)?.meta;
+    let (id, version) = (gone.id, gone.version);
+    let mut commits = Vec::new(alloc);
+    commits.push(commit(1, publishes))?;
+    commits.push(commit(2, one(alloc, Item::Details(unlisted))?))?;
+    commits.push(commit(3, one(alloc, Item::Gone { id, version })?))?;
+    let again = details(alloc, AGAIN, 4, 0)?;
+    commits.push(commit(4, one(alloc, Item::Details(again))?))?;
+    Ok(commits)
+}
+
+fn one(alloc: Global, item: Item) -> Result<Many<Item>, NoMemory> {
+    let mut items = Many::new(alloc);
+    items.push(item)?;
+    Ok(items)
+}
+
+fn line(alloc: Global, doc: &Doc) -> Result<String, AllocError> {
+    let name = doc.name.as_str();
+    match &doc.body {
+        Body::Made(_) => {
+            let text = text_of(doc);
+            format!(in alloc; "{name} {text}\n")
+        }
+        Body::Staged {
+            number,
+            place,
+            nuspec,
+        } => {
+            let file = if *nuspec { "manifest" } else { "package" };
+            format!(in alloc; "{name} {file} {number} {place}\n")
+        }
+    }
+}
+
+// The documents of an id after so many commits.
+fn told(alloc: Global, commits: &[Commit], count: usize, key: &str) -> Result<String, NoMemory> {
+    let mut told = String::new(alloc);
+    let commits = commits.get(..count).unwrap_or(&[]);
+    for doc in docs_from_scratch::<Content>(alloc, "http://f.test/", commits, key)?.as_slice() {
+        told.push_str(&line(alloc, doc)?)?;
+    }
+    Ok(told)
+}
+
+#[test]
+fn packages_and_manifests(rt: HostRuntime) -> Result<(), Fail> {
+    let alloc = rt.alloc();
+    let commits = catalog(alloc)?;
+    for (count, want) in [
+        (0, ""),
+        (1, BOTH),
+        (2, BOTH),
+        (3, DELETED),
+        (4, PUBLISHED_AGAIN),
+    ] {
+        assert_eq!(rt; told(alloc, &commits, count, "foo")?.as_str(), want);
+    }
+    assert_eq!(rt; told(alloc, &commits, 4, "bar.core")?.as_str(), OF_BAR);
+    assert_eq!(rt; told(alloc, &commits, 4, "bar")?.as_str(), "");
+    assert!(rt; Content::NAME == HiveName::Content);
+    Ok(())
+}
