@@ -1,5 +1,5 @@
 // The content hive's documents of publishes, an unlisting, a delete and a publish again.
-use crate::catalogs::{commit, details, text_of};
+use crate::catalogs::{commit, details, publishes, text_of};
 use flat_container::{Body, Content, Hive, HiveName};
 use fold_core::{Commit, Doc, Item, Many, NoMemory, docs_from_scratch};
 use std::alloc::{AllocError, Global};
@@ -42,29 +42,29 @@ d/bar.core/1.0.0/bar.core.1.0.0.nupkg package 1 2
 d/bar.core/1.0.0/bar.core.nuspec manifest 1 2
 ";
 
-// Three publishes, an unlisting of the second, a delete of the first, and a publish of it again.
-fn catalog(alloc: Global) -> Result<Vec<Commit>, NoMemory> {
-    let mut publishes = Many::new(alloc);
-    for (place, text) in (0..3).zip([RELEASE, SHORT, OTHER]) {
-        publishes.push(Item::Details(details(alloc, text, 1, place)?))?;
-    }
-    let mut unlisted = details(alloc, SHORT, 1, 1)?;
-    unlisted.listed = false;
-    let gone = details(alloc, RELEASE, 1, 0)?.meta;
-    let (id, version) = (gone.id, gone.version);
-    let mut commits = Vec::new(alloc);
-    commits.push(commit(1, publishes))?;
-    commits.push(commit(2, one(alloc, Item::Details(unlisted))?))?;
-    commits.push(commit(3, one(alloc, Item::Gone { id, version })?))?;
-    let again = details(alloc, AGAIN, 4, 0)?;
-    commits.push(commit(4, one(alloc, Item::Details(again))?))?;
-    Ok(commits)
-}
-
-fn one(alloc: Global, item: Item) -> Result<Many<Item>, NoMemory> {
+fn commit_of(alloc: Global, number: u32, item: Item) -> Result<Commit, NoMemory> {
     let mut items = Many::new(alloc);
     items.push(item)?;
-    Ok(items)
+    Ok(commit(number, items))
+}
+
+fn unlisting(alloc: Global) -> Result<Commit, NoMemory> {
+    let mut unlisted = details(alloc, SHORT, 1, 1)?;
+    unlisted.listed = false;
+    commit_of(alloc, 2, Item::Details(unlisted))
+}
+
+fn delete(alloc: Global) -> Result<Commit, NoMemory> {
+    let gone = details(alloc, RELEASE, 1, 0)?.meta;
+    let (id, version) = (gone.id, gone.version);
+    commit_of(alloc, 3, Item::Gone { id, version })
+}
+
+// Three publishes, an unlisting of the second, a delete of the first, and a publish of it again.
+fn catalog(alloc: Global) -> Result<[Commit; 4], NoMemory> {
+    let first = publishes(alloc, 1, &[RELEASE, SHORT, OTHER])?;
+    let again = publishes(alloc, 4, &[AGAIN])?;
+    Ok([first, unlisting(alloc)?, delete(alloc)?, again])
 }
 
 fn line(alloc: Global, doc: &Doc) -> Result<String, AllocError> {
