@@ -1,9 +1,13 @@
+pub mod Advances
 pub mod Bodies
 pub mod Ends
+pub mod KeyPlaces
 pub mod Keyed
 pub mod Looks
+pub mod NextItem
 pub mod Runs
 pub mod Settled
+pub mod StatePuts
 pub mod Steps
 pub mod Stops
 pub mod Tops

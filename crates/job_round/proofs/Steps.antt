@@ -125,7 +125,6 @@ pub tail_bytes : (bytes : Bodies) (docs : List Doc) → HaveBytes bytes docs →
 tail_bytes bytes [] all = all
 tail_bytes bytes (d ∷ docs) all = subst (HaveBytes bytes) (sym (others_are d docs)) (λ x there. all x (suc there.0, omega (arith, there.1), there.2))
 
--- what is said at one area, base address and key is said at equal ones
-pub moved : (P : Option Area → List ℕ → List ℕ → Type 0) (h held : Option Area) (b base k key : List ℕ) → h ≡ held → b ≡ base → k ≡ key → P h b k → P held base key
-moved P h held b base k key area_is base_is key_is said =
-    subst (λ (x : Option Area). P x base key) area_is (subst (λ (x : List ℕ). P h x key) base_is (subst (λ (x : List ℕ). P h b x) key_is said))
+-- what is said at one area and base address is said at equal ones
+pub moved : (P : Option Area → List ℕ → Type 0) (h held : Option Area) (b base : List ℕ) → h ≡ held → b ≡ base → P h b → P held base
+moved P h held b base area_is base_is said = subst (λ (x : Option Area). P x base) area_is (subst (λ (x : List ℕ). P h x) base_is said)

@@ -2,3 +2,4 @@ pub mod Errors
 pub mod Keys
 pub mod Puts
 pub mod Round
+pub mod States

@@ -77,8 +77,8 @@ abbrev pub HaveBytes : Bodies → List Doc → Type 0
 HaveBytes bytes docs = (d : Doc) → Contains docs d → IsSome (bytes d.body)
 
 -- so have those of each of these ids
-abbrev pub HaveAllBytes : (List ℕ → List Doc) → Bodies → List (List ℕ) → Type 0
-HaveAllBytes docs bytes keys = (key : List ℕ) → Contains keys key → HaveBytes bytes (docs key)
+abbrev pub HaveAllBytes : {X : Type 0} → (X → List Doc) → Bodies → List X → Type 0
+HaveAllBytes {X} docs bytes ids = (id : X) → Contains ids id → HaveBytes bytes (docs id)
 
 -- what some publish brought has this name
 abbrev pub IsStagedName : List ℕ → Type 0

@@ -13,7 +13,7 @@ ghost use Rattle.job_round.specs.Round.{Ended, ForWhole, HasCursorLast, IfDone, 
 
 use crate::cursor::{holds_cursor, put_cursor};
 use crate::error::{RoundErr, RoundOut, catalog_err};
-use crate::keys::keys_of;
+use crate::pass::states_of;
 use crate::puts::put_ids;
 use blob_store::Blobs;
 use catalog_core::Catalog;
@@ -36,8 +36,8 @@ fn put_all<H: Hive, B: Blobs>(
     ensures same { ((B.seen catalog.new.area).held ≡ (B.seen catalog.old.area).held) × (catalog.new.base ≡ catalog.old.base) × (catalog.new.rows ≡ catalog.old.rows) }
     ensures later { ((B.seen catalog.old.area).faults ≤ (B.seen catalog.new.area).faults) × ((B.seen area.old).faults ≤ (B.seen area.new).faults) }
 {
-    let keys = keys_of(alloc, commits)?;
-    put_ids::<H, B>(alloc, catalog, area, commits, keys.as_slice())?;
+    let states = states_of::<H>(alloc, commits)?;
+    put_ids::<H, B>(alloc, catalog, area, &states)?;
     put_cursor(alloc, area, last)
 }
 
@@ -70,8 +70,8 @@ fn build<H: Hive, B: Blobs>(
 /// Builds the hive in an area without a cursor: puts the documents of every id of the catalog, of each id
 /// the index last, and then the cursor at the last commit. Without commits it puts nothing.
 ///
-/// It holds the commits, and of the documents those of one id, without the bytes of packages and manifests,
-/// which it holds one at a time.
+/// It holds the commits, the entries of all ids, and of the documents those of one id, without the bytes of
+/// packages and manifests, which it holds one at a time.
 pub fn build_once<H: Hive, B: Blobs>(
     alloc: Global,
     catalog: &mut Catalog<B>,

@@ -7,8 +7,9 @@
 
 mod cursor;
 mod error;
+mod ids;
 mod job;
-mod keys;
+mod pass;
 mod puts;
 
 pub use error::{RoundErr, RoundOut};

@@ -4,15 +4,17 @@ ghost use Rattle.feed_base.specs.Counts.{HasRisen};
 ghost use Rattle.catalog_doc.specs.Names.{staged_name};
 ghost use Rattle.std.specs.FinMap.{get};
 ghost use Rattle.blob_store.specs.declared.call.Call.TheVariants.{Put};
-ghost use Rattle.fold_core.specs.Docs.{docs_of};
 ghost use Rattle.job_round.specs.Errors.{IsCause};
-ghost use Rattle.job_round.specs.Puts.{bytes_in, doc_put, doc_puts, HasPut, HasPutSome, HasRun, HasRunSome, HaveAllBytes, HaveBytes, id_puts, index_last, IsLost, keys_puts, put_of};
+ghost use Rattle.job_round.specs.Puts.{bytes_in, doc_put, doc_puts, HasPut, HasPutSome, HasRun, HasRunSome, HaveAllBytes, HaveBytes};
+ghost use Rattle.job_round.specs.Puts.{index_last, IsLost, put_of};
+ghost use Rattle.job_round.specs.States.{docs_in, state_puts, states_puts};
 
 use crate::error::{RoundErr, catalog_err, hive_err};
+use crate::ids::IdState;
 use blob_store::Blobs;
 use catalog_core::Catalog;
-use fold_core::{Body, Doc, Hive, docs_from_scratch};
-use pkg_meta::{Commit, Many, Text};
+use fold_core::{Body, Doc, Hive};
+use pkg_meta::Many;
 use std::alloc::Global;
 
 /// Puts a blob into the hive's area.
@@ -120,55 +122,51 @@ fn put_index_last<B: Blobs>(
     put_doc(alloc, catalog, area, index)
 }
 
-fn docs_of<H: Hive>(
-    alloc: Global,
-    base: &str,
-    commits: &[Commit],
-    key: &str,
-) -> Result<Many<Doc>, RoundErr>
-    ensures made { IfOk result (λ docs. docs ≡ docs_of H.keeps H.makes base.now commits.now key.now) }
+// The documents that the hive makes of an id.
+fn docs_in<H: Hive>(alloc: Global, base: &str, state: &IdState) -> Result<Many<Doc>, RoundErr>
+    ensures made { IfOk result (λ docs. docs ≡ docs_in H.makes base.now state.now) }
     ensures cause { IfErr result (IsCause ⊥ ⊥ (λ n. ⊥)) }
 {
-    let docs = docs_from_scratch::<H>(alloc, base, commits, key)?;
+    let key = state.key.as_str();
+    let entries = state.entries.as_slice();
+    let docs = H::docs(alloc, base, key, state.number, state.stamp, entries)?;
     Ok(docs)
 }
 
-// Puts the documents of the id with this key.
+// Puts the documents of an id.
 fn put_id<H: Hive, B: Blobs>(
     alloc: Global,
     catalog: &mut Catalog<B>,
     area: &mut B,
-    commits: &[Commit],
-    key: &str,
+    state: &IdState,
 ) -> Result<(), RoundErr>
-    ensures done { OnOk result (HasPut (B.seen catalog.old.area).held (λ m. id_puts H.keeps H.makes catalog.old.base commits.now (bytes_in m) key.now) (B.seen area.old).held (B.seen area.new).held) }
-    ensures some { HasPutSome (B.seen catalog.old.area).held (λ m. id_puts H.keeps H.makes catalog.old.base commits.now (bytes_in m) key.now) (B.seen area.old).held (B.seen area.new).held }
+    ensures done { OnOk result (HasPut (B.seen catalog.old.area).held (λ m. state_puts H.makes catalog.old.base (bytes_in m) state.now) (B.seen area.old).held (B.seen area.new).held) }
+    ensures some { HasPutSome (B.seen catalog.old.area).held (λ m. state_puts H.makes catalog.old.base (bytes_in m) state.now) (B.seen area.old).held (B.seen area.new).held }
     ensures cause { IfErr result (IsCause (HasRisen (B.seen catalog.old.area).faults (B.seen catalog.new.area).faults) (HasRisen (B.seen area.old).faults (B.seen area.new).faults)
-        (IsLost (B.seen catalog.old.area).held (λ m. HaveBytes (bytes_in m) (docs_of H.keeps H.makes catalog.old.base commits.now key.now)))) }
+        (IsLost (B.seen catalog.old.area).held (λ m. HaveBytes (bytes_in m) (docs_in H.makes catalog.old.base state.now)))) }
     ensures same { ((B.seen catalog.new.area).held ≡ (B.seen catalog.old.area).held) × (catalog.new.base ≡ catalog.old.base) × (catalog.new.rows ≡ catalog.old.rows) }
     ensures later { ((B.seen catalog.old.area).faults ≤ (B.seen catalog.new.area).faults) × ((B.seen area.old).faults ≤ (B.seen area.new).faults) }
 {
-    let docs = docs_of::<H>(alloc, catalog.base(), commits, key)?;
+    let docs = docs_in::<H>(alloc, catalog.base(), state)?;
     put_index_last(alloc, catalog, area, docs.as_slice())
 }
 
-/// Puts the documents of the ids with these keys, id by id.
+/// Puts the documents of these ids, id by id.
 pub(crate) fn put_ids<H: Hive, B: Blobs>(
     alloc: Global,
     catalog: &mut Catalog<B>,
     area: &mut B,
-    commits: &[Commit],
-    keys: &[Text],
+    states: &[IdState],
 ) -> Result<(), RoundErr>
-    ensures done { OnOk result (HasPut (B.seen catalog.old.area).held (λ m. keys_puts H.keeps H.makes catalog.old.base commits.now (bytes_in m) keys.now) (B.seen area.old).held (B.seen area.new).held) }
-    ensures some { HasPutSome (B.seen catalog.old.area).held (λ m. keys_puts H.keeps H.makes catalog.old.base commits.now (bytes_in m) keys.now) (B.seen area.old).held (B.seen area.new).held }
+    ensures done { OnOk result (HasPut (B.seen catalog.old.area).held (λ m. states_puts H.makes catalog.old.base (bytes_in m) states.now) (B.seen area.old).held (B.seen area.new).held) }
+    ensures some { HasPutSome (B.seen catalog.old.area).held (λ m. states_puts H.makes catalog.old.base (bytes_in m) states.now) (B.seen area.old).held (B.seen area.new).held }
     ensures cause { IfErr result (IsCause (HasRisen (B.seen catalog.old.area).faults (B.seen catalog.new.area).faults) (HasRisen (B.seen area.old).faults (B.seen area.new).faults)
-        (IsLost (B.seen catalog.old.area).held (λ m. HaveAllBytes (docs_of H.keeps H.makes catalog.old.base commits.now) (bytes_in m) keys.now))) }
+        (IsLost (B.seen catalog.old.area).held (λ m. HaveAllBytes (docs_in H.makes catalog.old.base) (bytes_in m) states.now))) }
     ensures same { ((B.seen catalog.new.area).held ≡ (B.seen catalog.old.area).held) × (catalog.new.base ≡ catalog.old.base) × (catalog.new.rows ≡ catalog.old.rows) }
     ensures later { ((B.seen catalog.old.area).faults ≤ (B.seen catalog.new.area).faults) × ((B.seen area.old).faults ≤ (B.seen area.new).faults) }
 {
-    for key in keys {
-        put_id::<H, B>(alloc, catalog, area, commits, key.as_str())?;
+    for state in states {
+        put_id::<H, B>(alloc, catalog, area, state)?;
     }
     Ok(())
 }
