@@ -4,9 +4,9 @@ mod CatalogSettle
 mod Ends
 mod Fitting
 mod Gets
-mod Halting
-mod Mended
+pub mod Halting
+pub mod Mended
 mod Mending
 mod OfCommit
 mod OpenSteps
-mod Prefixes
+pub mod Prefixes

@@ -1,5 +1,5 @@
 -- Why changes are refused, in parts: those that no catalog takes, and those that this one doesn't take by its rows.
-use Rattle.std.specs.Prelude.{◌≡◌, ℕ, ◌+◌, List, [], ◌++◌, length, Bool, false, ◌&&◌, Option}
+use Rattle.std.specs.Prelude.{◌≡◌, ℕ, ◌+◌, List, [], ◌++◌, length, Bool, false, ◌&&◌, Option, ⊤}
 use Rattle.std.specs.List.{count_by}
 use Rattle.std.specs.Option.{option_or}
 use Rattle.std.specs.Str.{bytes_eq}
@@ -12,6 +12,7 @@ use Rattle.catalog_doc.specs.Verdict.{ended, first_reason, full, is_empty, too_m
 use Rattle.catalog_doc.specs.declared.change.Change.{Change}
 use Rattle.catalog_doc.specs.declared.change.Change.TheVariants.{Publish, Unlist, Relist, Delete}
 use Rattle.catalog_doc.specs.declared.error.CommitErr.{CommitErr}
+use Rattle.catalog_doc.specs.declared.error.CommitErr.TheVariants as the
 
 -- whether two changes are of one version
 abbrev pub is_of_same : Change → Change → Bool
@@ -44,3 +45,12 @@ is_delete_of id (Delete i v) = bytes_eq id i.key
 abbrev pub HasCounts : Catalog → List Change → Type 0
 HasCounts cs earlier = (id : List ℕ) → live_count id (all_items cs ++ made_from cs (length cs + 1) 0 0 earlier) + count_by (is_delete_of id) earlier
     ≡ live_count id (all_items cs) + count_by (is_publish_of id) earlier
+
+-- A refusal that needs no leaf: not of a listing. No call failed, nothing is damaged, and memory didn't run out.
+abbrev pub IsOfRows : CommitErr → Type 0
+IsOfRows the.Fault = ⊥
+IsOfRows (the.Damaged name) = ⊥
+IsOfRows the.Memory = ⊥
+IsOfRows (the.Already place number) = ⊥
+IsOfRows the.Unsupported = ⊥
+IsOfRows error = ⊤

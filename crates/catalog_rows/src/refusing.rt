@@ -10,7 +10,7 @@ ghost use Rattle.catalog_doc.specs.Catalogs.{IsCatalog};
 ghost use Rattle.catalog_doc.specs.Commits.{live_details};
 ghost use Rattle.catalog_doc.specs.Verdict.{absent, ended, existing, first_reason, full, id_full, last_number_of, twice, unfit};
 ghost use Rattle.catalog_rows.specs.Last.{row_of};
-ghost use Rattle.catalog_rows.specs.Reasons.{HasCounts, is_delete_of, is_publish_of, misshapen, unready};
+ghost use Rattle.catalog_rows.specs.Reasons.{HasCounts, is_delete_of, is_publish_of, IsOfRows, misshapen, unready};
 
 use crate::rows::Rows;
 use crate::shape::{id_of, version_of};
@@ -25,7 +25,8 @@ const ID_ROOM: usize = 2048;
 const ROOM: usize = 200_000;
 
 fn existing(place: u32, last: Option<&Row>) -> Option<CommitErr>
-    ensures { (found : Option Placed) → option_copied last.entry ≡ option_map row_of found
+    ensures kind { IfSome result IsOfRows }
+    ensures exact { (found : Option Placed) → option_copied last.entry ≡ option_map row_of found
         → result ≡ existing place (last_number_of found) (live_details found) }
 {
     match last {
@@ -35,7 +36,8 @@ fn existing(place: u32, last: Option<&Row>) -> Option<CommitErr>
 }
 
 fn absent(place: u32, last: Option<&Row>) -> Option<CommitErr>
-    ensures { (found : Option Placed) → option_copied last.entry ≡ option_map row_of found
+    ensures kind { IfSome result IsOfRows }
+    ensures exact { (found : Option Placed) → option_copied last.entry ≡ option_map row_of found
         → result ≡ absent place (last_number_of found) (live_details found) }
 {
     match last {
@@ -92,7 +94,8 @@ impl Rows {
     // The id has no room for a publish behind the earlier changes.
     fn id_full(&self, place: u32, earlier: &[Change], id: &PackageId) -> Option<CommitErr>
         requires few { length earlier.now ≤ 64 }
-        ensures { (cs : Catalog) → all_rows cs ≡ self.now.rows → HasCounts cs earlier.now
+        ensures kind { IfSome result IsOfRows }
+        ensures exact { (cs : Catalog) → all_rows cs ≡ self.now.rows → HasCounts cs earlier.now
             → result ≡ id_full cs place earlier.now id.now.key }
     {
         let live = self.live(id).saturating_add(publishes(earlier, id));
@@ -111,7 +114,8 @@ impl Rows {
         change: &Change,
     ) -> Result<Option<CommitErr>, NoMemory>
         requires few { length earlier.now ≤ 64 }
-        ensures { IfOk result (λ found. (cs : Catalog) → all_rows cs ≡ self.now.rows → HasCounts cs earlier.now
+        ensures kind { IfOk result (λ found. IfSome found IsOfRows) }
+        ensures exact { IfOk result (λ found. (cs : Catalog) → all_rows cs ≡ self.now.rows → HasCounts cs earlier.now
             → found ≡ unfit cs place earlier.now change.now) }
     {
         let last = self.last(alloc, id_of(change), version_of(change))?;
@@ -127,7 +131,8 @@ impl Rows {
     // The first place that doesn't fit.
     fn first_unfit(&self, alloc: Global, changes: &[Change]) -> Result<Option<CommitErr>, NoMemory>
         requires few { length changes.now ≤ 64 }
-        ensures { IfOk result (λ found. (cs : Catalog) → all_rows cs ≡ self.now.rows
+        ensures kind { IfOk result (λ found. IfSome found IsOfRows) }
+        ensures exact { IfOk result (λ found. (cs : Catalog) → all_rows cs ≡ self.now.rows
             → first_reason twice [] 0 changes.now ≡ None → found ≡ first_reason (unfit cs) [] 0 changes.now) }
     {
         for (at, change) in changes.iter().enumerate() {
@@ -141,7 +146,8 @@ impl Rows {
     // There is no room for so many items more.
     fn full(&self, more: usize) -> Option<CommitErr>
         requires few { more ≤ 64 }
-        ensures { (cs : Catalog) → IsCatalog cs → all_rows cs ≡ self.now.rows → (changes : List Change)
+        ensures kind { IfSome result IsOfRows }
+        ensures exact { (cs : Catalog) → IsCatalog cs → all_rows cs ≡ self.now.rows → (changes : List Change)
             → length changes ≡ more → result ≡ full cs changes }
     {
         let items = self.len();
@@ -153,7 +159,8 @@ impl Rows {
 
     // No moment comes after the last commit's.
     fn ended(&self) -> Option<CommitErr>
-        ensures { (cs : Catalog) → IsCatalog cs → all_rows cs ≡ self.now.rows → result ≡ ended (newest cs) }
+        ensures kind { IfSome result IsOfRows }
+        ensures exact { (cs : Catalog) → IsCatalog cs → all_rows cs ≡ self.now.rows → result ≡ ended (newest cs) }
     {
         let (_, last) = last_of(self.as_slice());
         match after(last, last) {
@@ -166,7 +173,8 @@ impl Rows {
     /// that doesn't fit, no room for so many items, or no moment after the last.
     pub fn refusal(&self, alloc: Global, changes: &[Change]) -> Result<Option<CommitErr>, NoMemory>
         requires shaped { misshapen changes.now ≡ None }
-        ensures { IfOk result (λ found. (cs : Catalog) → IsCatalog cs → all_rows cs ≡ self.now.rows → found ≡ unready cs changes.now) }
+        ensures kind { IfOk result (λ found. IfSome found IsOfRows) }
+        ensures exact { IfOk result (λ found. (cs : Catalog) → IsCatalog cs → all_rows cs ≡ self.now.rows → found ≡ unready cs changes.now) }
     {
         if let Some(reason) = self.first_unfit(alloc, changes)? {
             return Ok(Some(reason));

@@ -38,6 +38,26 @@ impl Model for Rows {
     ghost invariant = { λ r. IsLatestOf r.rows.items r.latest };
 }
 
+/// The rows of a commit, for which memory was taken.
+#[derive(Drop)]
+pub struct NewRows {
+    rows: Vec<Row>,
+    names: Vec<Named>,
+}
+
+impl Model for NewRows {
+    ghost use Rattle.std.specs.Prelude.{List};
+    ghost use Rattle.catalog_doc.specs.declared.row.Row.{Row};
+
+    ghost Value = { List Row };
+
+    ghost use Rattle.catalog_rows.specs.Latest.{AreNamedFor};
+
+    ghost view = { λ new. new.rows.items };
+
+    ghost invariant = { λ new. AreNamedFor new.names.items new.rows.items };
+}
+
 fn names_of(alloc: Global, rows: &[Row]) -> Result<Vec<Named>, NoMemory>
     ensures { IfOk result (λ names. AreNamedFor names.items rows.now) }
 {
@@ -143,6 +163,39 @@ impl Rows {
         self.latest.count(id.key.as_str())
     }
 
+    /// Takes the memory that the rows of a commit need here. What is kept stays.
+    pub fn reserve(&mut self, alloc: Global, rows: Many<Row>) -> Result<NewRows, NoMemory>
+        ensures rows { IfOk result (λ new. new ≡ rows) }
+        ensures same { self.new ≡ self.old }
+    {
+        let names = names_of(alloc, rows.as_slice())?;
+        self.latest.reserve(rows.len())?;
+        self.pages.reserve(1)?;
+        self.rows.reserve(rows.len())?;
+        let rows = rows.into_vec();
+        Ok(NewRows { rows, names })
+    }
+
+    /// Takes in the rows of a commit, in the memory that was taken for them. Without memory all stays.
+    pub fn take_in(&mut self, new: NewRows) -> Result<(), NoMemory>
+        requires some { 0 < length new }
+        requires few { length new ≤ 64 }
+        ensures rows { OnOk result (self.new.rows ≡ self.old.rows ++ new) }
+        ensures catalog { OnOk result (TakesIn self.old new self.new) }
+        ensures err { OnErr result (self.new ≡ self.old) }
+    {
+        let NewRows { rows, names } = new;
+        self.latest.reserve(rows.len())?;
+        self.pages.reserve(1)?;
+        let first = self.rows.len();
+        let head = head_of(rows.as_slice());
+        let mut rows = rows;
+        self.rows.append(&mut rows)?;
+        self.latest.note_all(names, self.rows.as_slice(), first);
+        add_head(&mut self.pages, &head);
+        Ok(())
+    }
+
     /// Takes in the rows of a commit. Without memory all stays.
     pub fn add(&mut self, alloc: Global, rows: Many<Row>) -> Result<(), NoMemory>
         requires some { 0 < length rows }
@@ -151,15 +204,7 @@ impl Rows {
         ensures catalog { OnOk result (TakesIn self.old rows self.new) }
         ensures err { OnErr result (self.new ≡ self.old) }
     {
-        let names = names_of(alloc, rows.as_slice())?;
-        self.latest.reserve(rows.len())?;
-        self.pages.reserve(1)?;
-        let first = self.rows.len();
-        let head = head_of(rows.as_slice());
-        let mut rows = rows.into_vec();
-        self.rows.append(&mut rows)?;
-        self.latest.note_all(names, self.rows.as_slice(), first);
-        add_head(&mut self.pages, &head);
-        Ok(())
+        let new = self.reserve(alloc, rows)?;
+        self.take_in(new)
     }
 }

@@ -1,9 +1,9 @@
 // Which lists of changes no catalog takes.
-ghost use Rattle.std.specs.Prelude.{◌≡◌, ◌<◌, ◌≤◌, [], IfNone, length};
+ghost use Rattle.std.specs.Prelude.{◌≡◌, ◌<◌, ◌≤◌, [], IfNone, IfSome, length};
 ghost use Rattle.catalog_doc.specs.Commits.{changed_id, changed_version};
 ghost use Rattle.std.specs.List.{list_any};
 ghost use Rattle.catalog_doc.specs.Verdict.{first_reason, twice};
-ghost use Rattle.catalog_rows.specs.Reasons.{is_of_same, misshapen};
+ghost use Rattle.catalog_rows.specs.Reasons.{is_of_same, IsOfRows, misshapen};
 
 use catalog_doc::{Change, CommitErr};
 use pkg_meta::{PackageId, Version};
@@ -48,7 +48,8 @@ fn has_change(change: &Change, changes: &[Change]) -> bool
 // The first change whose version an earlier one has.
 fn first_twice(changes: &[Change]) -> Option<CommitErr>
     requires few { length changes.now ≤ 64 }
-    ensures { result ≡ first_reason twice [] 0 changes.now }
+    ensures kind { IfSome result IsOfRows }
+    ensures exact { result ≡ first_reason twice [] 0 changes.now }
 {
     for (at, change) in changes.iter().enumerate() {
         if has_change(change, &changes[..at]) {
@@ -60,6 +61,7 @@ fn first_twice(changes: &[Change]) -> Option<CommitErr>
 
 /// Why no catalog takes these changes: there are none, there are more than 64, or two are of one version.
 pub fn shape_refusal(changes: &[Change]) -> Option<CommitErr>
+    ensures kind { IfSome result IsOfRows }
     ensures exact { result ≡ misshapen changes.now }
     ensures few { IfNone result ((0 < length changes.now) × (length changes.now ≤ 64)) }
 {

@@ -4,8 +4,8 @@ use Rattle.catalog_doc.specs.declared.error.CommitErr.TheVariants as the
 use Rattle.catalog_rows.proofs.Places.{found_here, found_later, twice_found, twice_missed}
 use Rattle.catalog_rows.proofs.shape.first_twice.Goals as goal
 
-pub returns-then-has_change : goal.returns-then-has_change
-returns-then-has_change c =
+pub returns-then-has_change-clause-exact : goal.returns-then-has_change-clause-exact
+returns-then-has_change-clause-exact c =
     let changes = c.args.changes.now in
     let at = c.loop-at.at in
     let change = c.index-changes-at.result in

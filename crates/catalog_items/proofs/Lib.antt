@@ -1,0 +1,6 @@
+pub mod Absent
+pub mod DocsByRows
+pub mod Getting
+pub mod Held
+pub mod ItemRows
+mod LeafReads

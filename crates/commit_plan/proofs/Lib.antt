@@ -1,0 +1,5 @@
+pub mod LastLeaf
+pub mod Lasts
+pub mod Looking
+pub mod NextPage
+pub mod PlaceByPlace
