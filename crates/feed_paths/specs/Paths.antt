@@ -1,13 +1,16 @@
 -- What a path names, by the routes of this project under GET.
-use Rattle.std.specs.Prelude.{◌≡◌, ◌≢◌, ◌==◌, ◌⊎◌, ℕ, List, [], ◌∷◌, ◌++◌, codes, IsTrue}
+use Rattle.std.specs.Prelude.{◌≡◌, ◌≢◌, ◌==◌, ◌⊎◌, ℕ, List, [], ◌∷◌, ◌++◌, codes, IsSome, IsTrue}
 use Rattle.std.specs.Char.{is_ascii_digit}
 use Rattle.std.specs.List.{before_first, list_all}
 use Rattle.nuget_version.specs.Grammar.{Spells}
 use Rattle.nuget_version.specs.Printed.{key_text}
 use Rattle.nuget_version.specs.declared.version.Version.{Version}
 use Rattle.package_id.specs.Ids.{IsShortId, id_key}
+use Rattle.feed_paths.specs.Hives.{hive_of, served_under}
+use Rattle.feed_paths.specs.declared.hives.ServedHive.{ServedHive}
+use Rattle.feed_paths.specs.declared.hives.ServedHive.TheVariants.{Plain, SemVer2, Content}
 use Rattle.feed_paths.specs.declared.paths.Target.{Target}
-use Rattle.feed_paths.specs.declared.paths.Target.TheVariants.{Catalog, Content, NotYet, Nothing}
+use Rattle.feed_paths.specs.declared.paths.Target.TheVariants.{Catalog, Hive, NotYet, Nothing}
 
 -- what stands before the first `?`, or all where there is none
 abbrev pub without_query : List ℕ → List ℕ
@@ -57,11 +60,6 @@ IsVersionFileOf id tail =
 abbrev pub IsContentOf : List ℕ → List ℕ → Type 0
 IsContentOf id tail = (tail ≡ codes "index.json") ⊎ IsVersionFileOf id tail
 
--- the name of a document of the content hive, without its `d/`
-abbrev pub IsContentRest : List ℕ → Type 0
-IsContentRest rest =
-    (id : List ℕ) × (tail : List ℕ) × IsIdKey id × IsContentOf id tail × (rest ≡ id ++ (codes "/" ++ tail))
-
 -- `<lower>/<upper>`
 abbrev pub IsBounds : List ℕ → Type 0
 IsBounds text = (lower : List ℕ) × (upper : List ℕ) × IsVersionKey lower × IsVersionKey upper × (text ≡ lower ++ (codes "/" ++ upper))
@@ -78,18 +76,20 @@ IsVersionLeaf tail = (version : List ℕ) × IsVersionKey version × (tail ≡ v
 abbrev pub IsRegistrationTail : List ℕ → Type 0
 IsRegistrationTail tail = (tail ≡ codes "index.json") ⊎ (IsStoredPage tail ⊎ IsVersionLeaf tail)
 
--- the name of a registration document, without its `d/`
-abbrev pub IsRegistrationRest : List ℕ → Type 0
-IsRegistrationRest rest =
-    (id : List ℕ) × (tail : List ℕ) × IsIdKey id × IsRegistrationTail tail × (rest ≡ id ++ (codes "/" ++ tail))
+-- what stands behind the id in the name of a document of this hive
+abbrev pub IsTailOf : ServedHive → List ℕ → List ℕ → Type 0
+IsTailOf Plain id tail = IsRegistrationTail tail
+IsTailOf SemVer2 id tail = IsRegistrationTail tail
+IsTailOf Content id tail = IsContentOf id tail
 
--- a registration document below this prefix
-abbrev pub IsRegistrationUnder : List ℕ → List ℕ → Type 0
-IsRegistrationUnder front path = (rest : List ℕ) × IsRegistrationRest rest × (path ≡ front ++ rest)
+-- the name of a document of this hive, without its `d/`
+abbrev pub IsRestOf : ServedHive → List ℕ → Type 0
+IsRestOf hive rest =
+    (id : List ℕ) × (tail : List ℕ) × IsIdKey id × IsTailOf hive id tail × (rest ≡ id ++ (codes "/" ++ tail))
 
--- the word of a hive
+-- the word of a hive: of one that is served, or `auto`
 abbrev pub IsHiveWord : List ℕ → Type 0
-IsHiveWord word = (word ≡ codes "plain") ⊎ ((word ≡ codes "semver2") ⊎ ((word ≡ codes "content") ⊎ (word ≡ codes "auto")))
+IsHiveWord word = IsSome (hive_of word) ⊎ (word ≡ codes "auto")
 
 -- `/admin/cursor/<hive>`
 abbrev pub IsCursorPath : List ℕ → Type 0
@@ -101,38 +101,35 @@ IsServicePath path = (path ≡ codes "/v3/index.json") ⊎ (path ≡ codes "/v3/
 
 -- a path of the routes that isn't answered yet
 abbrev pub IsNotYet : List ℕ → Type 0
-IsNotYet path =
-    IsServicePath path
-    ⊎ (IsCursorPath path
-    ⊎ (IsRegistrationUnder (codes "/v3/registration/") path ⊎ IsRegistrationUnder (codes "/v3/registration-semver2/") path))
+IsNotYet path = IsServicePath path ⊎ IsCursorPath path
 
 -- the path of this document of the catalog
 pub record IsCatalogPath (path name : List ℕ) : Type 0 where
   pub is_name : IsCatalogName name
   pub spelled : path ≡ codes "/v3/catalog/" ++ name
 
--- the path of this document of the content hive
-pub record IsContentPath (path rest : List ℕ) : Type 0 where
-  pub is_rest : IsContentRest rest
-  pub spelled : path ≡ codes "/v3/flat/" ++ rest
+-- the path of this document of a hive
+pub record IsHivePath (hive : ServedHive) (path rest : List ℕ) : Type 0 where
+  pub is_rest : IsRestOf hive rest
+  pub spelled : path ≡ served_under hive ++ rest
 
 -- the path is of none of these kinds
 pub record IsOfNone (path : List ℕ) : Type 0 where
   pub catalog : (name : List ℕ) → IsCatalogPath path name → ⊥
-  pub content : (rest : List ℕ) → IsContentPath path rest → ⊥
+  pub hive : (hive : ServedHive) (rest : List ℕ) → IsHivePath hive path rest → ⊥
   pub not_yet : IsNotYet path → ⊥
 
 -- what a path without a query names
 abbrev pub Names : List ℕ → Target → Type 0
 Names path (Catalog name) = IsCatalogPath path name.now
-Names path (Content rest) = IsContentPath path rest.now
+Names path (Hive hive rest) = IsHivePath hive path rest.now
 Names path NotYet = IsNotYet path
 Names path Nothing = IsOfNone path
 
 -- the two are one target
 abbrev pub IsSame : Target → Target → Type 0
 IsSame (Catalog one) (Catalog other) = one.now ≡ other.now
-IsSame (Content one) (Content other) = one.now ≡ other.now
+IsSame (Hive one rest) (Hive other more) = (one ≡ other) × (rest.now ≡ more.now)
 IsSame NotYet NotYet = Unit {0}
 IsSame Nothing Nothing = Unit {0}
 IsSame _ _ = ⊥

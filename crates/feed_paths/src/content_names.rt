@@ -1,8 +1,8 @@
 // The names of the content hive's documents.
 ghost use Rattle.std.specs.Prelude.{◌≡◌, ◌++◌, ◌↔◌, codes, IfOk, IsTrue};
-ghost use Rattle.feed_paths.specs.Paths.{IsContentOf, IsContentRest, IsFileOf, IsVersionFileOf};
+ghost use Rattle.feed_paths.specs.Paths.{IsContentOf, IsFileOf, IsVersionFileOf};
 
-use crate::pieces::{is_id_key, is_version_key};
+use crate::pieces::is_version_key;
 use crate::split::{after_prefix, at_slash, between};
 use nuget_version::NoMemory;
 use std::alloc::Global;
@@ -50,26 +50,13 @@ fn is_version_file_of(alloc: Global, id: &str, tail: &str) -> Result<bool, NoMem
     }
 }
 
-fn is_content_of(alloc: Global, id: &str, tail: &str) -> Result<bool, NoMemory>
+/// Whether a document of the content hive has this behind its id.
+pub(crate) fn is_content_of(alloc: Global, id: &str, tail: &str) -> Result<bool, NoMemory>
     ensures { IfOk result (λ is. IsTrue is ↔ IsContentOf id.now tail.now) }
 {
     if tail == "index.json" {
         Ok(true)
     } else {
         is_version_file_of(alloc, id, tail)
-    }
-}
-
-/// Whether a document of the content hive has this name behind its `d/`, for some packages.
-pub(crate) fn is_content_rest(alloc: Global, rest: &str) -> Result<bool, NoMemory>
-    ensures { IfOk result (λ is. IsTrue is ↔ IsContentRest rest.now) }
-{
-    let Some((id, tail)) = at_slash(rest) else {
-        return Ok(false);
-    };
-    if is_id_key(alloc, id)? {
-        is_content_of(alloc, id, tail)
-    } else {
-        Ok(false)
     }
 }

@@ -1,10 +1,13 @@
 // What the path of a `get` names.
-ghost use Rattle.std.specs.Prelude.{◌≡◌, List, ℕ, IfOk, MatchOption};
-ghost use Rattle.feed_paths.specs.Paths.{IsCatalogPath, IsContentPath, IsSame, Names, without_query};
+ghost use Rattle.std.specs.Prelude.{◌≡◌, ◌++◌, List, ℕ, IfOk, MatchOption};
+ghost use Rattle.feed_paths.specs.Hives.{served_under};
+ghost use Rattle.feed_paths.specs.Paths.{IsCatalogPath, IsHivePath, IsSame, Names, without_query};
+ghost use Rattle.feed_paths.specs.declared.hives.ServedHive.{ServedHive};
 ghost use Rattle.feed_paths.specs.declared.paths.Target.{Target};
 
 use crate::catalog_names::is_catalog_name;
-use crate::content_names::is_content_rest;
+use crate::hive_names::is_rest_of;
+use crate::hives::ServedHive;
 use crate::routes::is_not_yet;
 use crate::split::{after_prefix, before_query};
 use nuget_version::NoMemory;
@@ -15,8 +18,8 @@ use std::alloc::Global;
 pub enum Target<'a> {
     /// The catalog's document of this name.
     Catalog(&'a str),
-    /// The content hive's document of this name behind its `d/`.
-    Content(&'a str),
+    /// The hive's document of this name behind its `d/`.
+    Hive(ServedHive, &'a str),
     /// Something that isn't answered yet.
     NotYet,
     /// No document.
@@ -38,16 +41,33 @@ fn catalog_name(path: &str) -> Option<&str>
     }
 }
 
-// The name of the content hive's document that the path names, behind its `d/`.
-fn content_rest(alloc: Global, path: &str) -> Result<Option<&str>, NoMemory>
-    ensures { IfOk result (λ o. MatchOption o ((rest : List ℕ) → IsContentPath path.now rest → ⊥)
-        (λ rest. IsContentPath path.now rest.now)) }
+// The hive whose documents have paths that begin like this one, and what stands behind that beginning.
+fn served_by(path: &str) -> Option<(ServedHive, &str)>
+    ensures { MatchOption result ((hive : ServedHive) (rest : List ℕ) → path.now ≡ served_under hive ++ rest → ⊥)
+        (λ p. path.now ≡ served_under p.0 ++ p.1.now) }
 {
-    let Some(rest) = after_prefix(path, "/v3/flat/") else {
+    if let Some(rest) = after_prefix(path, ServedHive::Plain.prefix()) {
+        return Some((ServedHive::Plain, rest));
+    }
+    if let Some(rest) = after_prefix(path, ServedHive::SemVer2.prefix()) {
+        return Some((ServedHive::SemVer2, rest));
+    }
+    match after_prefix(path, ServedHive::Content.prefix()) {
+        Some(rest) => Some((ServedHive::Content, rest)),
+        None => None,
+    }
+}
+
+// The hive's document that the path names: the hive, and the document's name behind its `d/`.
+fn hive_rest(alloc: Global, path: &str) -> Result<Option<(ServedHive, &str)>, NoMemory>
+    ensures { IfOk result (λ o. MatchOption o ((hive : ServedHive) (rest : List ℕ) → IsHivePath hive path.now rest → ⊥)
+        (λ p. IsHivePath p.0 path.now p.1.now)) }
+{
+    let Some((hive, rest)) = served_by(path) else {
         return Ok(None);
     };
-    if is_content_rest(alloc, rest)? {
-        Ok(Some(rest))
+    if is_rest_of(alloc, hive, rest)? {
+        Ok(Some((hive, rest)))
     } else {
         Ok(None)
     }
@@ -60,10 +80,10 @@ fn named(alloc: Global, path: &str) -> Result<Target<'_>, NoMemory>
     if let Some(name) = catalog_name(path) {
         return Ok(Target::Catalog(name));
     }
-    if let Some(rest) = content_rest(alloc, path)? {
-        return Ok(Target::Content(rest));
+    if let Some((hive, rest)) = hive_rest(alloc, path)? {
+        return Ok(Target::Hive(hive, rest));
     }
-    if is_not_yet(alloc, path)? {
+    if is_not_yet(path) {
         Ok(Target::NotYet)
     } else {
         Ok(Target::Nothing)

@@ -33,24 +33,32 @@ const NAMED: [(&str, &str, &str); 19] = [
     ("/admin/cursor/semver2", "not yet", ""),
     ("/admin/cursor/content", "not yet", ""),
     ("/admin/cursor/auto", "not yet", ""),
-    ("/v3/registration/foo/index.json", "not yet", ""),
+    ("/v3/registration/foo/index.json", "plain", "foo/index.json"),
     (
         "/v3/registration/foo/page/1.0.0/1.9.0-b.json",
-        "not yet",
-        "",
+        "plain",
+        "foo/page/1.0.0/1.9.0-b.json",
     ),
-    ("/v3/registration/foo/1.0.0.1.json", "not yet", ""),
+    (
+        "/v3/registration/foo/1.0.0.1.json?a",
+        "plain",
+        "foo/1.0.0.1.json",
+    ),
     (
         "/v3/registration-semver2/foo/page/1.0.0/2.0.0.json",
-        "not yet",
-        "",
+        "semver2",
+        "foo/page/1.0.0/2.0.0.json",
     ),
     (
         "/v3/registration-semver2/foo/1.0.0-rc.1.json",
-        "not yet",
-        "",
+        "semver2",
+        "foo/1.0.0-rc.1.json",
     ),
-    ("/v3/registration-semver2/index/index.json", "not yet", ""),
+    (
+        "/v3/registration-semver2/index/index.json",
+        "semver2",
+        "index/index.json",
+    ),
 ];
 
 // Paths that name nothing.
@@ -94,7 +102,7 @@ const NOTHING: [&str; 34] = [
 fn told(target: Target<'_>) -> (&str, &str) {
     match target {
         Target::Catalog(name) => ("catalog", name),
-        Target::Content(rest) => ("content", rest),
+        Target::Hive(hive, rest) => (hive.word(), rest),
         Target::NotYet => ("not yet", ""),
         Target::Nothing => ("nothing", ""),
     }

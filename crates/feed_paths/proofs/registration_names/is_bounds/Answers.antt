@@ -3,7 +3,7 @@ use Rattle.std.proofs.lemmas.Result.{IfOk-weaker}
 use Rattle.feed_paths.specs.Paths.{IsVersionKey}
 use Rattle.feed_paths.proofs.Cutting.{off_on, pair_is, pair_none, pair_not}
 use Rattle.feed_paths.proofs.Keys.{free_version_key}
-use Rattle.feed_paths.proofs.routes.is_bounds.Goals as goal
+use Rattle.feed_paths.proofs.registration_names.is_bounds.Goals as goal
 
 abbrev behind : List ℕ → List ℕ → Type 0
 behind x y = IsVersionKey y

@@ -2,7 +2,7 @@ use Rattle.std.proofs.Common.{codes}
 use Rattle.std.proofs.lemmas.Result.{IfOk-weaker}
 use Rattle.feed_paths.specs.Paths.{IsBounds}
 use Rattle.feed_paths.proofs.Cutting.{middle_is}
-use Rattle.feed_paths.proofs.routes.is_stored_page.Goals as goal
+use Rattle.feed_paths.proofs.registration_names.is_stored_page.Goals as goal
 
 pub returns-in-Some : goal.returns-in-Some
 returns-in-Some c =

@@ -2,7 +2,7 @@ use Rattle.std.proofs.Common.{codes}
 use Rattle.std.proofs.lemmas.Result.{IfOk-weaker}
 use Rattle.feed_paths.specs.Paths.{IsVersionKey}
 use Rattle.feed_paths.proofs.Cutting.{front_is}
-use Rattle.feed_paths.proofs.routes.is_version_leaf.Goals as goal
+use Rattle.feed_paths.proofs.registration_names.is_version_leaf.Goals as goal
 
 pub returns-in-Some : goal.returns-in-Some
 returns-in-Some c =
