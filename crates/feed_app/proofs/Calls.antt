@@ -3,7 +3,7 @@ use Rattle.std.proofs.Common.{◌≡◌, ◌⊎◌, ◌<◌, ◌≤◌, ◌≢�
 use Rattle.feed_base.proofs.Options.{at_some}
 use Rattle.feed_app.specs.Accepts.{Accepts}
 use Rattle.feed_app.specs.Answers.{status_of}
-use Rattle.feed_app.specs.Commands.{Command, Init, Get, Publish, JobContent, command_of}
+use Rattle.feed_app.specs.Commands.{Command, Init, Get, Publish, Job, command_of}
 use Rattle.feed_app.specs.Does.{Does, meaning, reach_of}
 use Rattle.feed_app.specs.Frame.{Explains, IsDone, IsLost, Keeps, Meaning, Touches, most_input, touch_of}
 use Rattle.feed_app.specs.Outside.{AreaRose, Bounds, Members, Outside, Rose, Shows, Sight, Stream, area_of, held, input_of, output_of, sight}
@@ -21,7 +21,7 @@ use Rattle.feed_app.proofs.Publishes.{publish_accepts}
 accepts : {B : Type 0} (m : Members B) (command : Command) → Accepts (meaning m command)
 accepts m (Init base) = init_accepts m base
 accepts m Publish = publish_accepts m
-accepts m JobContent = job_accepts m
+accepts m (Job hive) = job_accepts m hive
 accepts m (Get path) = get_accepts m path
 
 -- a status that isn't 5 or 8 is the answer's

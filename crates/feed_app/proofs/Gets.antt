@@ -1,5 +1,5 @@
 -- What follows for `get`.
-use Rattle.std.proofs.Common.{◌≡◌, ◌⊎◌, ℕ, List, Bool, true, false, Option, Some, None, IfSome, IsSome, inl, inr, refl, sym, ap, subst}
+use Rattle.std.proofs.Common.{◌≡◌, ◌⊎◌, ℕ, List, Bool, true, false, Option, Some, None, IfSome, IsSome, inl, inr, ⊎_elim, refl, sym, ap, subst}
 use Rattle.std.specs.FinMap.{get}
 use Rattle.feed_base.proofs.Options.{at_some}
 use Rattle.blob_store.specs.Area.{Area}
@@ -10,11 +10,13 @@ use Rattle.catalog_core.specs.Reads.{has_doc}
 use Rattle.catalog_core.proofs.Grown.{simple_of_plain}
 use Rattle.catalog_core.proofs.Plains.{one_plain_held}
 use Rattle.catalog_core.proofs.RowDocs.{its_doc, no_doc}
-use Rattle.feed_paths.specs.Paths.{IsCatalogPath, IsContentPath, without_query}
-use Rattle.feed_paths.proofs.Exclusion.{catalog_content, catalog_not_yet, content_not_yet, same_name, same_rest}
+use Rattle.feed_paths.specs.Paths.{IsCatalogPath, IsHivePath, without_query}
+use Rattle.feed_paths.specs.declared.hives.ServedHive.{ServedHive}
+use Rattle.feed_paths.proofs.Exclusion.{catalog_hive, catalog_not_yet, hive_not_yet, same_name, same_rest}
 use Rattle.feed_app.specs.Accepts.{Accepts}
 use Rattle.feed_app.specs.Frame.{Explains}
-use Rattle.feed_app.specs.Gets.{Gets, HasCatalogDocument, HasContentDocument, HoldsDocument, IsHeld, OfCatalog, OfContent, Reads, content_name, get_meaning}
+use Rattle.feed_app.specs.Gets.{Gets, HasCatalogDocument, HasHiveDocument, HoldsDocument, IsHeld, OfCatalog, OfHive, Reads, get_meaning, stored_name}
+use Rattle.feed_app.specs.Hives.{hive_area, hive_stores}
 use Rattle.feed_app.specs.Openings.{NotOpened}
 use Rattle.feed_app.specs.Outside.{AreaRose, Members, Sight, held}
 use Rattle.feed_app.specs.declared.answer.Answer.{Answer}
@@ -27,6 +29,7 @@ use Rattle.feed_app.specs.declared.area.AreaName.{AreaName}
 use Rattle.feed_app.specs.declared.area.AreaName.TheVariants as area
 use Rattle.feed_app.proofs.Absent.{not_both, one_value, some_none}
 use Rattle.feed_app.proofs.Closed.{closed_explains, not_refused}
+use Rattle.feed_app.proofs.Places.{by_area, get_touches}
 
 module _ {B : Type 0} (m : Members B) (path : List ℕ) (before after : Sight B) where
   abbrev Explained : Answer → Type 0
@@ -38,8 +41,8 @@ module _ {B : Type 0} (m : Members B) (path : List ℕ) (before after : Sight B)
   abbrev CatalogCause : Answer → Type 0
   CatalogCause answer = answer ≡ Fault area.Catalog → AreaRose m before.stores.catalog after.stores.catalog
 
-  abbrev ContentCause : Answer → Type 0
-  ContentCause answer = answer ≡ Fault area.Content → AreaRose m before.stores.content after.stores.content
+  abbrev HiveCause : Answer → Type 0
+  HiveCause answer = (hive : ServedHive) → answer ≡ Fault (hive_area hive) → AreaRose m (hive_stores before.stores hive) (hive_stores after.stores hive)
 
   catalog_explains : (answer : Answer) (name base : List ℕ) (cs : Catalog) → IsFound Told base cs → CatalogCause answer → OfCatalog answer name base cs Told → Explained answer
   catalog_explains (Done given) name base cs found rose is = tt
@@ -60,33 +63,30 @@ module _ {B : Type 0} (m : Members B) (path : List ℕ) (before after : Sight B)
   catalog_explains TooLong name base cs found rose is = absurd is
   catalog_explains Memory name base cs found rose is = tt
 
-  content_explains : (answer : Answer) (rest : List ℕ) (told : Option Area) → ContentCause answer → OfContent answer rest told → Explained answer
-  content_explains (Done given) rest told rose is = tt
-  content_explains Usage rest told rose is = absurd is
-  content_explains (Refused why) rest told rose is = tt
-  content_explains (Fault area.Content) rest told rose is = (tt, rose refl)
-  content_explains (Fault area.Catalog) rest told rose is = absurd is
-  content_explains (Fault area.Plain) rest told rose is = absurd is
-  content_explains (Fault area.Semver2) rest told rose is = absurd is
-  content_explains (Fault area.Auto) rest told rose is = absurd is
-  content_explains FaultInput rest told rose is = absurd is
-  content_explains (Damaged name blob) rest told rose is = absurd is
-  content_explains TooLong rest told rose is = absurd is
-  content_explains Memory rest told rose is = tt
+  hive_explains : (hive : ServedHive) (answer : Answer) (rest : List ℕ) (told : Option Area) → IsHivePath hive (without_query path) rest → HiveCause answer → OfHive hive answer rest told → Explained answer
+  hive_explains hive (Done given) rest told names rose is = tt
+  hive_explains hive Usage rest told names rose is = absurd is
+  hive_explains hive (Refused why) rest told names rose is = tt
+  hive_explains hive (Fault name) rest told names rose is =
+      subst (λ (n : AreaName). Explained (Fault n)) (sym is) (get_touches hive (without_query path) rest names, by_area m before.stores after.stores hive (rose hive (ap Fault is)))
+  hive_explains hive FaultInput rest told names rose is = absurd is
+  hive_explains hive (Damaged name blob) rest told names rose is = absurd is
+  hive_explains hive TooLong rest told names rose is = absurd is
+  hive_explains hive Memory rest told names rose is = tt
 
-  pub explains : (answer : Answer) (of : List ℕ) (untouched : Type 0) (content : Option Area) → CatalogCause answer → ContentCause answer → Gets answer of Told untouched content → Explained answer
-  explains answer of untouched content rose other (inl (closed, same)) = closed_explains m (get_meaning m path).reach before after Told answer tt rose closed
-  explains answer of untouched content rose other (inr (base, cs, found, inl (rest, names, is))) = content_explains answer rest content other is
-  explains answer of untouched content rose other (inr (base, cs, found, inr (same, inl (name, names, is)))) = catalog_explains answer name base cs found rose is
-  explains answer of untouched content rose other (inr (base, cs, found, inr (same, inr (inl not_yet)))) = subst Explained (sym not_yet.1) tt
-  explains answer of untouched content rose other (inr (base, cs, found, inr (same, inr (inr (inl of_none))))) = subst Explained (sym of_none.1) tt
-  explains answer of untouched content rose other (inr (base, cs, found, inr (same, inr (inr (inr memory))))) = subst Explained (sym memory) tt
+  pub explains : (answer : Answer) (old new : ServedHive → B) → CatalogCause answer → HiveCause answer → Gets m answer path Told old new → Explained answer
+  explains answer old new rose other (inl (closed, same)) = closed_explains m (get_meaning m path).reach before after Told answer tt rose closed
+  explains answer old new rose other (inr (base, cs, found, inl (hive, rest, names, is, others))) = hive_explains hive answer rest (held m (old hive)) names other is
+  explains answer old new rose other (inr (base, cs, found, inr (same, inl (name, names, is)))) = catalog_explains answer name base cs found rose is
+  explains answer old new rose other (inr (base, cs, found, inr (same, inr (inl not_yet)))) = subst Explained (sym not_yet.1) tt
+  explains answer old new rose other (inr (base, cs, found, inr (same, inr (inr (inl of_none))))) = subst Explained (sym of_none.1) tt
+  explains answer old new rose other (inr (base, cs, found, inr (same, inr (inr (inr memory))))) = subst Explained (sym memory) tt
 
 -- what an open catalog's area holds is what it held before
-pub read_of : (answer : Answer) (path base : List ℕ) (cs : Catalog) (mid told : Option Area) (untouched : Type 0) (content : Option Area) → mid ≡ told
-    → IsFound told base cs → Reads answer (without_query path) base cs mid untouched content → Gets answer path told untouched content
-read_of answer path base cs mid told untouched content same found reads =
-    inr (base, cs, found, subst (λ (h : Option Area). Reads answer (without_query path) base cs h untouched content) same reads)
+pub read_of : {B : Type 0} (m : Members B) (answer : Answer) (path base : List ℕ) (cs : Catalog) (mid told : Option Area) (old new : ServedHive → B) → mid ≡ told
+    → IsFound told base cs → Reads m answer (without_query path) base cs mid old new → Gets m answer path told old new
+read_of m answer path base cs mid told old new same found reads =
+    inr (base, cs, found, subst (λ (h : Option Area). Reads m answer (without_query path) base cs h old new) same reads)
 
 -- two catalogs of one area have documents of the same names
 module _ (area : Area) (name base other bytes : List ℕ) (cs ds : Catalog) (found_one : IsFound (Some area) base cs) (found_other : IsFound (Some area) other ds) where
@@ -104,7 +104,7 @@ abbrev pub IsGood : AreaName → List ℕ → Answer → Type 0
 IsGood name bytes answer = (answer ≡ Done (reply.Document bytes)) ⊎ ((answer ≡ Fault name) ⊎ (answer ≡ Memory))
 
 abbrev IsDocument : List ℕ → Answer → Type 0
-IsDocument bytes answer = IsGood area.Catalog bytes answer ⊎ IsGood area.Content bytes answer
+IsDocument bytes answer = IsGood area.Catalog bytes answer ⊎ ((hive : ServedHive) × IsGood (hive_area hive) bytes answer)
 
 -- what is held is the answer
 module _ (told : Option Area) (blobs : Area) (bytes : List ℕ) (there : told ≡ Some blobs) where
@@ -127,8 +127,8 @@ module _ (told : Option Area) (blobs : Area) (bytes : List ℕ) (there : told �
     reply_held (reply.Document found) is = inl (ap (λ (l : List ℕ). Done (reply.Document l)) (one_value (get blobs name) found bytes (at_some told (λ a. get a name ≡ Some found) blobs there is.1) holds.6))
     reply_held reply.Initialised is = absurd is
     reply_held (reply.Committed number stamp) is = absurd is
-    reply_held (reply.Built number) is = absurd is
-    reply_held (reply.Idle number) is = absurd is
+    reply_held (reply.Built hive number) is = absurd is
+    reply_held (reply.Idle hive number) is = absurd is
 
     refusal_held : (why : Refusal) → OfCatalog (Refused why) name other ds told → ⊥
     refusal_held Missing is = same_names blobs name holds.0 other bytes holds.1 ds (holds.2, holds.3, holds.4) (subst (λ (o : Option Area). IsFound o other ds) there opened) holds.5 is
@@ -159,44 +159,40 @@ module _ (told : Option Area) (blobs : Area) (bytes : List ℕ) (there : told �
     of_catalog_held TooLong is = absurd is
     of_catalog_held Memory is = inr (inr refl)
 
-  module _ (rest : List ℕ) (holds : get blobs (content_name rest) ≡ Some bytes) where
-    content_reply : (given : Reply) → OfContent (Done given) rest told → IsGood area.Content bytes (Done given)
-    content_reply (reply.Document found) is = inl (ap (λ (l : List ℕ). Done (reply.Document l)) (one_value (get blobs (content_name rest)) found bytes (at_some told (λ a. get a (content_name rest) ≡ Some found) blobs there is) holds))
-    content_reply reply.Initialised is = absurd is
-    content_reply (reply.Committed number stamp) is = absurd is
-    content_reply (reply.Built number) is = absurd is
-    content_reply (reply.Idle number) is = absurd is
+  module _ (hive : ServedHive) (rest : List ℕ) (holds : get blobs (stored_name rest) ≡ Some bytes) where
+    hive_reply : (given : Reply) → OfHive hive (Done given) rest told → IsGood (hive_area hive) bytes (Done given)
+    hive_reply (reply.Document found) is = inl (ap (λ (l : List ℕ). Done (reply.Document l)) (one_value (get blobs (stored_name rest)) found bytes (at_some told (λ a. get a (stored_name rest) ≡ Some found) blobs there is) holds))
+    hive_reply reply.Initialised is = absurd is
+    hive_reply (reply.Committed number stamp) is = absurd is
+    hive_reply (reply.Built which number) is = absurd is
+    hive_reply (reply.Idle which number) is = absurd is
 
-    content_refusal : (why : Refusal) → OfContent (Refused why) rest told → ⊥
-    content_refusal Missing is = some_none (get blobs (content_name rest)) bytes holds (at_some told (λ a. get a (content_name rest) ≡ None) blobs there is)
-    content_refusal Initialised is = is
-    content_refusal Uninitialised is = is
-    content_refusal UnsupportedBody is = is
-    content_refusal UnsupportedCatalog is = is
-    content_refusal UnsupportedPath is = is
-    content_refusal UnsupportedArea is = is
-    content_refusal (Exists place number) is = is
-    content_refusal ClockEnd is = is
+    hive_refusal : (why : Refusal) → OfHive hive (Refused why) rest told → ⊥
+    hive_refusal Missing is = some_none (get blobs (stored_name rest)) bytes holds (at_some told (λ a. get a (stored_name rest) ≡ None) blobs there is)
+    hive_refusal Initialised is = is
+    hive_refusal Uninitialised is = is
+    hive_refusal UnsupportedBody is = is
+    hive_refusal UnsupportedCatalog is = is
+    hive_refusal UnsupportedPath is = is
+    hive_refusal UnsupportedArea is = is
+    hive_refusal (Exists place number) is = is
+    hive_refusal ClockEnd is = is
 
-    of_content_held : (answer : Answer) → OfContent answer rest told → IsGood area.Content bytes answer
-    of_content_held (Done given) is = content_reply given is
-    of_content_held Usage is = absurd is
-    of_content_held (Refused why) is = absurd (content_refusal why is)
-    of_content_held (Fault area.Content) is = inr (inl refl)
-    of_content_held (Fault area.Catalog) is = absurd is
-    of_content_held (Fault area.Plain) is = absurd is
-    of_content_held (Fault area.Semver2) is = absurd is
-    of_content_held (Fault area.Auto) is = absurd is
-    of_content_held FaultInput is = absurd is
-    of_content_held (Damaged name blob) is = absurd is
-    of_content_held TooLong is = absurd is
-    of_content_held Memory is = inr (inr refl)
+    of_hive_held : (answer : Answer) → OfHive hive answer rest told → IsGood (hive_area hive) bytes answer
+    of_hive_held (Done given) is = hive_reply given is
+    of_hive_held Usage is = absurd is
+    of_hive_held (Refused why) is = absurd (hive_refusal why is)
+    of_hive_held (Fault name) is = inr (inl (ap Fault is))
+    of_hive_held FaultInput is = absurd is
+    of_hive_held (Damaged name blob) is = absurd is
+    of_hive_held TooLong is = absurd is
+    of_hive_held Memory is = inr (inr refl)
 
 -- by what the path names
-module _ (answer : Answer) (path bytes : List ℕ) (catalog : Option Area) (untouched : Type 0) (content : Option Area) where
+module _ {B : Type 0} (m : Members B) (answer : Answer) (path bytes : List ℕ) (catalog : Option Area) (old new : ServedHive → B) where
   by_catalog : (name other : List ℕ) (ds : Catalog) (blobs : Area) → catalog ≡ Some blobs → HoldsDocument blobs name bytes → IsFound catalog other ds → IsCatalogPath path name
-      → Reads answer path other ds catalog untouched content → IsGood area.Catalog bytes answer
-  by_catalog name other ds blobs there holds opened names (inl of_content) = absurd (catalog_content path name of_content.0 names of_content.1)
+      → Reads m answer path other ds catalog old new → IsGood area.Catalog bytes answer
+  by_catalog name other ds blobs there holds opened names (inl (hive, rest, its, is, others)) = absurd (catalog_hive hive path name rest names its)
   by_catalog name other ds blobs there holds opened names (inr (same, inl of_name)) =
       of_catalog_held catalog blobs bytes there name other ds holds opened answer
       (subst (λ (n : List ℕ). OfCatalog answer n other ds catalog) (same_name path of_name.0 name of_name.1 names) of_name.2)
@@ -204,15 +200,16 @@ module _ (answer : Answer) (path bytes : List ℕ) (catalog : Option Area) (unto
   by_catalog name other ds blobs there holds opened names (inr (same, inr (inr (inl of_none)))) = absurd (of_none.0.catalog name names)
   by_catalog name other ds blobs there holds opened names (inr (same, inr (inr (inr memory)))) = inr (inr memory)
 
-  by_content : (rest other : List ℕ) (ds : Catalog) (blobs : Area) → content ≡ Some blobs → get blobs (content_name rest) ≡ Some bytes → IsContentPath path rest
-      → Reads answer path other ds catalog untouched content → IsGood area.Content bytes answer
-  by_content rest other ds blobs there holds names (inl of_content) =
-      of_content_held content blobs bytes there rest holds answer
-      (subst (λ (r : List ℕ). OfContent answer r content) (same_rest path of_content.0 rest of_content.1 names) of_content.2)
-  by_content rest other ds blobs there holds names (inr (same, inl of_name)) = absurd (catalog_content path of_name.0 rest of_name.1 names)
-  by_content rest other ds blobs there holds names (inr (same, inr (inl not_yet))) = absurd (content_not_yet path rest names not_yet.0)
-  by_content rest other ds blobs there holds names (inr (same, inr (inr (inl of_none)))) = absurd (of_none.0.content rest names)
-  by_content rest other ds blobs there holds names (inr (same, inr (inr (inr memory)))) = inr (inr memory)
+  by_name : (hive : ServedHive) (rest other : List ℕ) (ds : Catalog) (blobs : Area) → held m (old hive) ≡ Some blobs → get blobs (stored_name rest) ≡ Some bytes → IsHivePath hive path rest
+      → Reads m answer path other ds catalog old new → IsGood (hive_area hive) bytes answer
+  by_name hive rest other ds blobs there holds names (inl (one, more, its, is, others)) =
+      let same = same_rest one hive path more rest its names in
+      of_hive_held (held m (old hive)) blobs bytes there hive rest holds answer
+      (subst (λ (h : ServedHive). OfHive h answer rest (held m (old h))) same.0 (subst (λ (r : List ℕ). OfHive one answer r (held m (old one))) same.1 is))
+  by_name hive rest other ds blobs there holds names (inr (same, inl of_name)) = absurd (catalog_hive hive path of_name.0 rest of_name.1 names)
+  by_name hive rest other ds blobs there holds names (inr (same, inr (inl not_yet))) = absurd (hive_not_yet hive path rest names not_yet.0)
+  by_name hive rest other ds blobs there holds names (inr (same, inr (inr (inl of_none)))) = absurd (of_none.0.hive hive rest names)
+  by_name hive rest other ds blobs there holds names (inr (same, inr (inr (inr memory)))) = inr (inr memory)
 
 -- a document that is held is the answer, faults and out of memory aside
 module _ {B : Type 0} (m : Members B) (path bytes : List ℕ) (before after : Sight B) (answer : Answer) where
@@ -223,31 +220,33 @@ module _ {B : Type 0} (m : Members B) (path bytes : List ℕ) (before after : Si
   catalog_held has (inl closed) =
       let holds = has.2.2 in
       not_closed (held m before.stores.catalog) has.2.0 bytes has.2.1 answer (holds.0, holds.1, holds.2, holds.3, holds.4) closed.0
-  catalog_held has (inr opened) = by_catalog answer (without_query path) bytes _ _ _ has.0 opened.0 opened.1 has.2.0 has.2.1 has.2.2 opened.2 has.1 opened.3
+  catalog_held has (inr opened) = by_catalog m answer (without_query path) bytes (held m before.stores.catalog) (hive_stores before.stores) (hive_stores after.stores) has.0 opened.0 opened.1 has.2.0 has.2.1 has.2.2 opened.2 has.1 opened.3
 
-  pub content_held : HasContentDocument (without_query path) bytes (held m before.stores.catalog) (held m before.stores.content) → Acts → IsDocument bytes answer
-  content_held has (inl closed) = inl (not_closed (held m before.stores.catalog) has.2.0 bytes has.2.1 answer has.2.2 closed.0)
-  content_held has (inr opened) = inr (by_content answer (without_query path) bytes _ _ _ has.0 opened.0 opened.1 has.3.0 has.3.1 has.3.2 has.1 opened.3)
+  pub hive_held : (hive : ServedHive) → HasHiveDocument hive (without_query path) bytes (held m before.stores.catalog) (held m (hive_stores before.stores hive)) → Acts
+      → IsGood area.Catalog bytes answer ⊎ IsGood (hive_area hive) bytes answer
+  hive_held hive has (inl closed) = inl (not_closed (held m before.stores.catalog) has.2.0 bytes has.2.1 answer has.2.2 closed.0)
+  hive_held hive has (inr opened) =
+      inr (by_name m answer (without_query path) bytes (held m before.stores.catalog) (hive_stores before.stores) (hive_stores after.stores) hive has.0 opened.0 opened.1 has.3.0 has.3.1 has.3.2 has.1 opened.3)
 
   answers : IsHeld m path bytes before → Acts → IsDocument bytes answer
   answers (inl has) acts = inl (catalog_held has acts)
-  answers (inr has) acts = content_held has acts
+  answers (inr (hive, has)) acts = ⊎_elim (λ good. inl good) (λ good. inr (hive, good)) (hive_held hive has acts)
+
+not_good : (name : AreaName) (why : Refusal) (bytes : List ℕ) → IsGood name bytes (Refused why) → ⊥
+not_good name why bytes (inl is) = cc is
+not_good name why bytes (inr (inl is)) = cc is
+not_good name why bytes (inr (inr is)) = cc is
 
 not_document : (why : Refusal) (bytes : List ℕ) → IsDocument bytes (Refused why) → ⊥
-not_document why bytes (inl (inl is)) = cc is
-not_document why bytes (inl (inr (inl is))) = cc is
-not_document why bytes (inl (inr (inr is))) = cc is
-not_document why bytes (inr (inl is)) = cc is
-not_document why bytes (inr (inr (inl is))) = cc is
-not_document why bytes (inr (inr (inr is))) = cc is
+not_document why bytes is = ⊎_elim (not_good area.Catalog why bytes) (λ h. not_good (hive_area h.0) why bytes h.1) is
+
+not_lost : (of name : AreaName) (blob bytes : List ℕ) → IsGood of bytes (Damaged name blob) → ⊥
+not_lost of name blob bytes (inl is) = cc is
+not_lost of name blob bytes (inr (inl is)) = cc is
+not_lost of name blob bytes (inr (inr is)) = cc is
 
 not_damaged : (name : AreaName) (blob bytes : List ℕ) → IsDocument bytes (Damaged name blob) → ⊥
-not_damaged name blob bytes (inl (inl is)) = cc is
-not_damaged name blob bytes (inl (inr (inl is))) = cc is
-not_damaged name blob bytes (inl (inr (inr is))) = cc is
-not_damaged name blob bytes (inr (inl is)) = cc is
-not_damaged name blob bytes (inr (inr (inl is))) = cc is
-not_damaged name blob bytes (inr (inr (inr is))) = cc is
+not_damaged name blob bytes is = ⊎_elim (not_lost area.Catalog name blob bytes) (λ h. not_lost (hive_area h.0) name blob bytes h.1) is
 
 pub get_accepts : {B : Type 0} (m : Members B) (path : List ℕ) → Accepts (get_meaning m path)
 get_accepts m path = record {

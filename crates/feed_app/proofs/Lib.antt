@@ -8,6 +8,7 @@ pub mod Gets
 pub mod Inits
 pub mod Jobs
 pub mod Names
+pub mod Places
 pub mod Plain
 pub mod Publishes
 pub mod Rounds

@@ -3,8 +3,10 @@ use Rattle.std.proofs.Common.{◌≡◌, ◌⊎◌, ℕ, List, Some, inl, inr, �
 use Rattle.feed_app.specs.Answers.{status_of, text_of}
 use Rattle.feed_app.specs.Commands.{Get, command_of}
 use Rattle.feed_paths.specs.Paths.{without_query}
+use Rattle.feed_paths.specs.declared.hives.ServedHive.{ServedHive}
 use Rattle.feed_app.specs.Frame.{Explains, IsDone}
-use Rattle.feed_app.specs.Gets.{HasCatalogDocument, HasContentDocument, IsServed, get_meaning}
+use Rattle.feed_app.specs.Gets.{HasCatalogDocument, HasHiveDocument, IsServed, get_meaning}
+use Rattle.feed_app.specs.Hives.{hive_area, hive_stores}
 use Rattle.feed_app.specs.Outside.{AreaRose, Bounds, Outside, Rose, Stream, area_of, held, output_of, sight}
 use Rattle.feed_app.specs.Runs.{Runs}
 use Rattle.feed_app.specs.Writes.{HasMore, Writes}
@@ -14,7 +16,8 @@ use Rattle.feed_app.specs.declared.answer.Reply.TheVariants as reply
 use Rattle.feed_app.specs.declared.area.AreaName.{AreaName}
 use Rattle.feed_app.specs.declared.area.AreaName.TheVariants as area
 use Rattle.feed_app.proofs.Calls.{done}
-use Rattle.feed_app.proofs.Gets.{IsGood, catalog_held, content_held}
+use Rattle.feed_app.proofs.Gets.{IsGood, catalog_held, hive_held}
+use Rattle.feed_app.proofs.Places.{of_area}
 
 -- the answer's text went out, or memory ran out
 written : (answer : Answer) (bytes : List ℕ) (status : ℕ) (old new : Stream) → (answer ≡ Done (reply.Document bytes)) ⊎ (answer ≡ Memory) → (Rose old new → ⊥) → Writes answer status old new → IsServed bytes status old new
@@ -45,8 +48,9 @@ module _ {B I O C : Type 0} (b : Bounds B I O C) (words : List (List ℕ)) (path
       written run.answer bytes status (output_of b.sink before.output) (output_of b.sink after.output)
       (sure area.Catalog still (catalog_held b.blobs path bytes (sight b before) (sight b after) run.answer has its.acts)) quiet run.writes
 
-  pub content_served : HasContentDocument (without_query path) bytes (held b.blobs before.stores.catalog) (held b.blobs before.stores.content)
-      → (AreaRose b.blobs before.stores.catalog after.stores.catalog → ⊥) → (AreaRose b.blobs before.stores.content after.stores.content → ⊥) → (OutputRose → ⊥) → Served
-  content_served has still calm quiet =
+  pub hive_served : (hive : ServedHive) → HasHiveDocument hive (without_query path) bytes (held b.blobs before.stores.catalog) (held b.blobs (hive_stores before.stores hive))
+      → (AreaRose b.blobs before.stores.catalog after.stores.catalog → ⊥) → (AreaRose b.blobs (hive_stores before.stores hive) (hive_stores after.stores hive) → ⊥) → (OutputRose → ⊥) → Served
+  hive_served hive has still calm quiet =
       written run.answer bytes status (output_of b.sink before.output) (output_of b.sink after.output)
-      (⊎_elim (sure area.Catalog still) (sure area.Content calm) (content_held b.blobs path bytes (sight b before) (sight b after) run.answer has its.acts)) quiet run.writes
+      (⊎_elim (sure area.Catalog still) (sure (hive_area hive) (λ rose. calm (of_area b.blobs before.stores after.stores hive rose)))
+      (hive_held b.blobs path bytes (sight b before) (sight b after) run.answer hive has its.acts)) quiet run.writes

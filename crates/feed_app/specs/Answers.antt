@@ -1,6 +1,8 @@
 -- What is written for each answer, and its status.
 use Rattle.std.specs.Prelude.{◌++◌, ℕ, List, codes, decimal}
 use Rattle.ticks.specs.Stamp.{stamp_text}
+use Rattle.feed_paths.specs.Hives.{hive_word}
+use Rattle.feed_paths.specs.declared.hives.ServedHive.{ServedHive}
 use Rattle.feed_app.specs.declared.answer.Answer.{Answer}
 use Rattle.feed_app.specs.declared.answer.Answer.TheVariants.{Done, Usage, Refused, Fault, FaultInput, Damaged, TooLong, Memory}
 use Rattle.feed_app.specs.declared.answer.Refusal.{Refusal}
@@ -22,16 +24,16 @@ area_word area.Auto = codes "auto"
 abbrev pub committed_text : ℕ → ℕ → List ℕ
 committed_text number stamp = codes "committed " ++ (decimal number ++ (codes " " ++ (stamp_text stamp ++ codes "\n")))
 
--- what a job did, and the number of commits that it is up to
-abbrev pub content_text : List ℕ → ℕ → List ℕ
-content_text word number = word ++ (codes " content " ++ (decimal number ++ codes "\n"))
+-- what a job did, the hive, and the number of commits that it is up to
+abbrev pub job_text : List ℕ → ServedHive → ℕ → List ℕ
+job_text word hive number = word ++ (codes " " ++ (hive_word hive ++ (codes " " ++ (decimal number ++ codes "\n"))))
 
 -- what is written where a command was done: a document's bytes alone, or a line
 abbrev pub reply_text : Reply → List ℕ
 reply_text reply.Initialised = codes "initialised\n"
 reply_text (reply.Committed number stamp) = committed_text number stamp
-reply_text (reply.Built number) = content_text (codes "done") number
-reply_text (reply.Idle number) = content_text (codes "idle") number
+reply_text (reply.Built hive number) = job_text (codes "done") hive number
+reply_text (reply.Idle hive number) = job_text (codes "idle") hive number
 reply_text (reply.Document bytes) = bytes
 
 -- the place of the change whose version is there, and the number of the version's last commit

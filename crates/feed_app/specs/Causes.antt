@@ -14,6 +14,7 @@ use Rattle.feed_base.specs.declared.take.TakeErr.TheVariants as taking
 use Rattle.feed_app.specs.declared.answer.Answer.{Answer}
 use Rattle.feed_app.specs.declared.answer.Answer.TheVariants.{Refused, Fault, FaultInput, Damaged, TooLong, Memory}
 use Rattle.feed_app.specs.declared.answer.Refusal.TheVariants.{Initialised, Uninitialised, UnsupportedCatalog, UnsupportedArea, Exists, ClockEnd}
+use Rattle.feed_app.specs.declared.area.AreaName.{AreaName}
 use Rattle.feed_app.specs.declared.area.AreaName.TheVariants as area
 
 -- where the input wasn't taken
@@ -49,10 +50,10 @@ read_answer (reading.Damaged name) = Damaged area.Catalog name
 read_answer reading.Fault = Fault area.Catalog
 read_answer reading.Memory = Memory
 
--- where the content's job stopped
-abbrev pub round_answer : RoundErr → Answer
-round_answer round.CatalogFault = Fault area.Catalog
-round_answer round.HiveFault = Fault area.Content
-round_answer (round.Damaged name) = Damaged area.Catalog name
-round_answer round.Unsupported = Refused UnsupportedArea
-round_answer round.Memory = Memory
+-- where a job of the hive in this area stopped
+abbrev pub round_answer : AreaName → RoundErr → Answer
+round_answer name round.CatalogFault = Fault area.Catalog
+round_answer name round.HiveFault = Fault name
+round_answer name (round.Damaged blob) = Damaged area.Catalog blob
+round_answer name round.Unsupported = Refused UnsupportedArea
+round_answer name round.Memory = Memory

@@ -1,6 +1,6 @@
 -- What a command does.
 use Rattle.std.specs.Prelude.{◌≡◌, Option, None, Some}
-use Rattle.feed_app.specs.Commands.{Command, Init, Get, Publish, JobContent}
+use Rattle.feed_app.specs.Commands.{Command, Init, Get, Publish, Job}
 use Rattle.feed_app.specs.Frame.{Meaning, IsDone, Reach, nothing}
 use Rattle.feed_app.specs.Outside.{Members, Sight}
 use Rattle.feed_app.specs.Gets.{get_meaning}
@@ -13,7 +13,7 @@ use Rattle.feed_app.specs.declared.answer.Answer.TheVariants.{Usage}
 abbrev pub meaning : {B : Type 0} → Members B → Command → Meaning B
 meaning m (Init base) = init_meaning m base
 meaning m Publish = publish_meaning m
-meaning m JobContent = job_meaning m
+meaning m (Job hive) = job_meaning m hive
 meaning m (Get path) = get_meaning m path
 
 -- what words of this meaning may touch

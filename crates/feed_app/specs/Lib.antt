@@ -9,6 +9,7 @@ pub mod Does
 pub mod Frame
 pub mod Fronts
 pub mod Gets
+pub mod Hives
 pub mod Inits
 pub mod Jobs
 pub mod Openings

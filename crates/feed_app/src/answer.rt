@@ -1,9 +1,10 @@
 // The answers of all commands, with their texts and statuses.
 ghost use Rattle.std.specs.Prelude.{◌≡◌, IfOk};
 ghost use Rattle.std.specs.Cow.{cow_slice_items};
-ghost use Rattle.feed_app.specs.Answers.{committed_text, content_text, damaged_text, exists_text, fault_text};
+ghost use Rattle.feed_app.specs.Answers.{committed_text, damaged_text, exists_text, fault_text, job_text};
 
 use crate::area::AreaName;
+use feed_paths::ServedHive;
 use pkg_meta::{Bytes, NoMemory, Text, Ticks};
 use std::alloc::Global;
 use std::borrow::CowSlice;
@@ -15,10 +16,10 @@ pub enum Reply {
     Initialised,
     /// The publish is committed: the commit's number and stamp.
     Committed { number: u32, stamp: Ticks },
-    /// The content hive is built, of a catalog of so many commits.
-    Built(u32),
-    /// There was nothing to build, of a catalog of so many commits.
-    Idle(u32),
+    /// The hive is built, of a catalog of so many commits.
+    Built(ServedHive, u32),
+    /// There was nothing to build in the hive, of a catalog of so many commits.
+    Idle(ServedHive, u32),
     /// The document has these bytes.
     Document(Bytes),
 }
@@ -36,7 +37,7 @@ pub enum Refusal {
     UnsupportedCatalog,
     /// The path names something that isn't answered yet.
     UnsupportedPath,
-    /// The content hive is built already.
+    /// The hive is built already.
     UnsupportedArea,
     /// The version is there: the change's place, and the number of the version's last commit.
     Exists { place: u32, number: u32 },
@@ -111,14 +112,16 @@ fn damaged_line<'a>(
     Ok(CowSlice::Owned(line.into_bytes()))
 }
 
-fn content_line<'a>(
+fn job_line<'a>(
     alloc: Global,
     word: &str,
+    hive: ServedHive,
     number: u32,
 ) -> Result<CowSlice<'a, u8, Global>, NoMemory>
-    ensures { IfOk result (λ line. cow_slice_items line ≡ content_text word.now number) }
+    ensures { IfOk result (λ line. cow_slice_items line ≡ job_text word.now hive number) }
 {
-    let line = format!(in alloc; "{word} content {number}\n")?;
+    let hive = hive.word();
+    let line = format!(in alloc; "{word} {hive} {number}\n")?;
     Ok(CowSlice::Owned(line.into_bytes()))
 }
 
@@ -132,8 +135,8 @@ impl Reply {
         match self {
             Reply::Initialised => Ok(CowSlice::Borrowed("initialised\n".as_bytes())),
             Reply::Committed { number, stamp } => committed_line(alloc, *number, *stamp),
-            Reply::Built(number) => content_line(alloc, "done", *number),
-            Reply::Idle(number) => content_line(alloc, "idle", *number),
+            Reply::Built(hive, number) => job_line(alloc, "done", *hive, *number),
+            Reply::Idle(hive, number) => job_line(alloc, "idle", *hive, *number),
             Reply::Document(bytes) => Ok(CowSlice::Borrowed(bytes.as_slice())),
         }
     }

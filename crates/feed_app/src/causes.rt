@@ -68,13 +68,13 @@ impl Answer {
         }
     }
 
-    /// The answer for a job of the content hive that stopped.
-    pub(crate) fn of_round(error: RoundErr) -> Answer
-        ensures { result ≡ round_answer error }
+    /// The answer for a job that stopped, of the hive in this area.
+    pub(crate) fn of_round(area: AreaName, error: RoundErr) -> Answer
+        ensures { result ≡ round_answer area error }
     {
         match error {
             RoundErr::CatalogFault => Answer::Fault(AreaName::Catalog),
-            RoundErr::HiveFault => Answer::Fault(AreaName::Content),
+            RoundErr::HiveFault => Answer::Fault(area),
             RoundErr::Damaged(name) => Answer::Damaged(AreaName::Catalog, name),
             RoundErr::Unsupported => Answer::Refused(Refusal::UnsupportedArea),
             RoundErr::Memory => Answer::Memory,

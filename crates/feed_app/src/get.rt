@@ -3,15 +3,17 @@ ghost use Rattle.std.specs.Prelude.{◌≡◌, ◌≤◌, ℕ, List, Option};
 ghost use Rattle.feed_base.specs.Counts.{HasRisen};
 ghost use Rattle.catalog_core.specs.Verdicts.{ForCatalogsOf};
 ghost use Rattle.feed_paths.specs.Paths.{without_query};
-ghost use Rattle.feed_app.specs.Frame.{IsDone};
-ghost use Rattle.feed_app.specs.Gets.{OfCatalog, OfContent, Reads, get_meaning};
-ghost use Rattle.feed_app.specs.Outside.{Stream, over};
+ghost use Rattle.feed_paths.specs.declared.hives.ServedHive.{ServedHive};
+ghost use Rattle.feed_app.specs.Frame.{IsDone, KeepsArea};
+ghost use Rattle.feed_app.specs.Gets.{OfCatalog, OfHive, Reads, asked_under, get_meaning};
+ghost use Rattle.feed_app.specs.Hives.{by_hive, hive_area};
+ghost use Rattle.feed_app.specs.Outside.{AreaRose, Stream, over};
 
 use crate::answer::{Answer, Refusal, Reply};
 use crate::area::AreaName;
 use blob_store::{BlobErr, Blobs};
 use catalog_core::{Catalog, Stores, open_catalog};
-use feed_paths::{Target, target_of};
+use feed_paths::{ServedHive, Target, target_of};
 use pkg_meta::NoMemory;
 use std::alloc::Global;
 
@@ -19,7 +21,7 @@ use std::alloc::Global;
 fn catalog_document<B: Blobs>(alloc: Global, catalog: &mut Catalog<B>, name: &str) -> Answer
     ensures is { ForCatalogsOf catalog.old.rows (λ cs. OfCatalog result name.now catalog.old.base cs (B.seen catalog.old.area).held) }
     ensures cause { result ≡ Answer.Fault AreaName.Catalog → HasRisen (B.seen catalog.old.area).faults (B.seen catalog.new.area).faults }
-    ensures other { result ≡ Answer.Fault AreaName.Content → ⊥ }
+    ensures other { (hive : ServedHive) → result ≡ Answer.Fault (hive_area hive) → ⊥ }
     ensures same { (B.seen catalog.new.area).held ≡ (B.seen catalog.old.area).held }
     ensures later { (B.seen catalog.old.area).faults ≤ (B.seen catalog.new.area).faults }
 {
@@ -30,39 +32,49 @@ fn catalog_document<B: Blobs>(alloc: Global, catalog: &mut Catalog<B>, name: &st
     }
 }
 
-// The content hive's document of this name behind its `d/`.
-fn content_document<B: Blobs>(alloc: Global, content: &mut B, rest: &str) -> Answer
-    ensures is { OfContent result rest.now (B.seen content.old).held }
-    ensures cause { result ≡ Answer.Fault AreaName.Content → HasRisen (B.seen content.old).faults (B.seen content.new).faults }
-    ensures same { (B.seen content.new).held ≡ (B.seen content.old).held }
+// The hive's document of this name behind its `d/`.
+fn hive_document<B: Blobs>(alloc: Global, area: &mut B, hive: ServedHive, rest: &str) -> Answer
+    ensures is { OfHive hive result rest.now (B.seen area.old).held }
+    ensures cause { result ≡ Answer.Fault (hive_area hive) → HasRisen (B.seen area.old).faults (B.seen area.new).faults }
+    ensures same { (B.seen area.new).held ≡ (B.seen area.old).held }
 {
     let Ok(name) = format!(in alloc; "d/{rest}") else {
         return Answer::Memory;
     };
-    match content.get(alloc, &name) {
+    match area.get(alloc, &name) {
         Ok(Some(bytes)) => Answer::Done(Reply::Document(bytes)),
         Ok(None) => Answer::Refused(Refusal::Missing),
-        Err(BlobErr::Failed) => Answer::Fault(AreaName::Content),
+        Err(BlobErr::Failed) => Answer::Fault(AreaName::of_hive(hive)),
         Err(BlobErr::Memory) => Answer::Memory,
     }
 }
 
-// What the path names, of an open catalog and the content's area.
+// What the path names, of an open catalog and the areas of the hives.
 fn document<B: Blobs>(
     alloc: Global,
     catalog: &mut Catalog<B>,
+    plain: &mut B,
+    semver2: &mut B,
     content: &mut B,
     path: &str,
 ) -> Answer
-    ensures is { ForCatalogsOf catalog.old.rows (λ cs. Reads result (without_query path.now) catalog.old.base cs (B.seen catalog.old.area).held (content.new ≡ content.old) (B.seen content.old).held) }
+    ensures is { ForCatalogsOf catalog.old.rows (λ cs. Reads B.Blobs result (without_query path.now) catalog.old.base cs (B.seen catalog.old.area).held
+        (by_hive plain.old semver2.old content.old) (by_hive plain.new semver2.new content.new)) }
     ensures catalog_cause { result ≡ Answer.Fault AreaName.Catalog → HasRisen (B.seen catalog.old.area).faults (B.seen catalog.new.area).faults }
-    ensures content_cause { result ≡ Answer.Fault AreaName.Content → HasRisen (B.seen content.old).faults (B.seen content.new).faults }
-    ensures same { ((B.seen catalog.new.area).held ≡ (B.seen catalog.old.area).held) × ((B.seen content.new).held ≡ (B.seen content.old).held) }
+    ensures hive_cause { (hive : ServedHive) → result ≡ Answer.Fault (hive_area hive)
+        → AreaRose B.Blobs (by_hive plain.old semver2.old content.old hive) (by_hive plain.new semver2.new content.new hive) }
+    ensures keeps { (hive : ServedHive) → KeepsArea B.Blobs (asked_under (without_query path.now) hive)
+        (by_hive plain.old semver2.old content.old hive) (by_hive plain.new semver2.new content.new hive) }
+    ensures same { (B.seen catalog.new.area).held ≡ (B.seen catalog.old.area).held }
     ensures later { (B.seen catalog.old.area).faults ≤ (B.seen catalog.new.area).faults }
 {
     match target_of(alloc, path) {
         Ok(Target::Catalog(name)) => catalog_document(alloc, catalog, name),
-        Ok(Target::Content(rest)) => content_document(alloc, content, rest),
+        Ok(Target::Hive(hive, rest)) => match hive {
+            ServedHive::Plain => hive_document(alloc, plain, hive, rest),
+            ServedHive::SemVer2 => hive_document(alloc, semver2, hive, rest),
+            ServedHive::Content => hive_document(alloc, content, hive, rest),
+        },
         Ok(Target::NotYet) => Answer::Refused(Refusal::UnsupportedPath),
         Ok(Target::Nothing) => Answer::Refused(Refusal::Missing),
         Err(NoMemory) => Answer::Memory,
@@ -78,7 +90,14 @@ pub(crate) fn get<B: Blobs>(alloc: Global, stores: Stores<B>, path: &str) -> (An
     match open_catalog(alloc, stores.catalog) {
         Ok(catalog) => {
             let mut catalog = catalog;
-            let answer = document(alloc, &mut catalog, &mut stores.content, path);
+            let answer = document(
+                alloc,
+                &mut catalog,
+                &mut stores.plain,
+                &mut stores.semver2,
+                &mut stores.content,
+                path,
+            );
             stores.catalog = catalog.into_area();
             (answer, stores)
         }

@@ -1,8 +1,10 @@
 // What holds of a `get`. The function does nothing.
 ghost use Rattle.std.specs.Prelude.{◌≡◌, ℕ, List, Some};
 ghost use Rattle.feed_paths.specs.Paths.{without_query};
+ghost use Rattle.feed_paths.specs.declared.hives.ServedHive.{ServedHive};
 ghost use Rattle.feed_app.specs.Commands.{Get, command_of};
-ghost use Rattle.feed_app.specs.Gets.{HasCatalogDocument, HasContentDocument, IsServed};
+ghost use Rattle.feed_app.specs.Gets.{HasCatalogDocument, HasHiveDocument, IsServed};
+ghost use Rattle.feed_app.specs.Hives.{hive_stores};
 ghost use Rattle.feed_app.specs.Outside.{AreaRose, Outside, Rose, bounds, held, output_of};
 ghost use Rattle.feed_app.specs.Runs.{Runs};
 
@@ -16,8 +18,12 @@ pub fn serves_documents<B: Blobs, I: Source, O: Sink, C: Clock>()
         → command_of words ≡ Some (Get path) → HasCatalogDocument (without_query path) bytes (held b.blobs before.stores.catalog)
         → (AreaRose b.blobs before.stores.catalog after.stores.catalog → ⊥) → (Rose (output_of b.sink before.output) (output_of b.sink after.output) → ⊥)
         → IsServed bytes status (output_of b.sink before.output) (output_of b.sink after.output) }
-    ensures content { let b = bounds B.Blobs I.Source O.Sink C.Clock in (words : List (List ℕ)) (path bytes : List ℕ) (before after : Outside B I O C) (status : ℕ) → Runs b words before status after
-        → command_of words ≡ Some (Get path) → HasContentDocument (without_query path) bytes (held b.blobs before.stores.catalog) (held b.blobs before.stores.content)
-        → (AreaRose b.blobs before.stores.catalog after.stores.catalog → ⊥) → (AreaRose b.blobs before.stores.content after.stores.content → ⊥)
-        → (Rose (output_of b.sink before.output) (output_of b.sink after.output) → ⊥) → IsServed bytes status (output_of b.sink before.output) (output_of b.sink after.output) }
+    ensures hive { let b = bounds B.Blobs I.Source O.Sink C.Clock in
+        (words : List (List ℕ)) (hive : ServedHive) (path bytes : List ℕ) (before after : Outside B I O C) (status : ℕ) → Runs b words before status after
+        → command_of words ≡ Some (Get path)
+        → HasHiveDocument hive (without_query path) bytes (held b.blobs before.stores.catalog) (held b.blobs (hive_stores before.stores hive))
+        → (AreaRose b.blobs before.stores.catalog after.stores.catalog → ⊥)
+        → (AreaRose b.blobs (hive_stores before.stores hive) (hive_stores after.stores hive) → ⊥)
+        → (Rose (output_of b.sink before.output) (output_of b.sink after.output) → ⊥)
+        → IsServed bytes status (output_of b.sink before.output) (output_of b.sink after.output) }
 {}

@@ -35,7 +35,7 @@ fn act<B: Blobs, I: Source, C: Clock>(
         None => (Answer::Usage, stores),
         Some(Command::Init(base)) => init(alloc, stores, base),
         Some(Command::Publish) => publish(alloc, stores, input, clock),
-        Some(Command::JobContent) => job(alloc, stores),
+        Some(Command::Job(hive)) => job(alloc, stores, hive),
         Some(Command::Get(path)) => get(alloc, stores, path),
     }
 }
@@ -57,8 +57,9 @@ fn write_answer<O: Sink>(alloc: Global, answer: &Answer, output: &mut O) -> Stat
 
 /// Does what the words of a command say, on the stores and streams that are handed in, and writes the text of its
 /// answer. It knows `init` with a base address, which makes the catalog of no commits, `publish`, which commits the
-/// publish that the input holds, `job content`, which builds the content hive in an area without a cursor, and `get` with
-/// a path, which writes the bytes of the document that the path names, one of the catalog's or of the content hive's.
+/// publish that the input holds, `job` with `plain`, `semver2` or `content`, which builds that hive in an area without a
+/// cursor, and `get` with a path, which writes the bytes of the document that the path names, one of the catalog's or of
+/// one of these hives.
 ///
 /// A command opens the catalog before it looks at a path or at another area. A path is cut at its first `?` and isn't
 /// decoded.

@@ -3,6 +3,7 @@ ghost use Rattle.std.specs.Prelude.{◌≡◌, ◌∷◌, [], ℕ, List, map, op
 ghost use Rattle.feed_app.specs.Commands.{command_of, of_one_word, of_two_words, asked, texts};
 
 use crate::base::is_base;
+use feed_paths::ServedHive;
 
 /// What the words of a command ask for.
 #[derive(Clone, Copy)]
@@ -11,8 +12,8 @@ pub enum Command<'a> {
     Init(&'a str),
     /// Commit the publish that the input holds.
     Publish,
-    /// Build the content hive.
-    JobContent,
+    /// Build this hive.
+    Job(ServedHive),
     /// Give the document that this path names.
     Get(&'a str),
 }
@@ -55,7 +56,7 @@ fn meaning_of_two<'a>(word: &str, object: &'a str) -> Option<Command<'a>>
 {
     match word {
         "init" if is_base(object) => Some(Command::Init(object)),
-        "job" if object == "content" => Some(Command::JobContent),
+        "job" => Some(Command::Job(ServedHive::of_word(object)?)),
         "get" => Some(Command::Get(object)),
         _ => None,
     }

@@ -50,6 +50,18 @@ const MISSING: &str = "refused missing\n";
 
 const VERSIONS: &str = "{\"versions\":[\"1.0.0\"]}";
 
+const PLAIN_INDEX: &str =
+    "{\"@id\":\"http://f.test/v3/registration/foo/index.json\",\"commitId\":\"00000000-0000-0000-0000-000000000001\",\"commitTimeStamp\":\"2024-01-01T00:00:00.0000000Z\",\"count\":1,\"items\":[{\"@id\":\"http://f.test/v3/registration/foo/index.json#page/1.0.0/1.0.0\",\"count\":1,\"items\":[{\"@id\":\"http://f.test/v3/registration/foo/1.0.0.json\",\"catalogEntry\":{\"@id\":\"http://f.test/v3/catalog/data/1/0.json\",\"id\":\"Foo\",\"listed\":true,\"published\":\"2024-01-01T00:00:00.0000000Z\",\"version\":\"1.0.0\"},\"packageContent\":\"http://f.test/v3/flat/foo/1.0.0/foo.1.0.0.nupkg\"}],\"lower\":\"1.0.0\",\"parent\":\"http://f.test/v3/registration/foo/index.json\",\"upper\":\"1.0.0\"}]}";
+
+const PLAIN_LEAF: &str =
+    "{\"@id\":\"http://f.test/v3/registration/foo/1.0.0.json\",\"catalogEntry\":\"http://f.test/v3/catalog/data/1/0.json\",\"listed\":true,\"packageContent\":\"http://f.test/v3/flat/foo/1.0.0/foo.1.0.0.nupkg\",\"published\":\"2024-01-01T00:00:00.0000000Z\",\"registration\":\"http://f.test/v3/registration/foo/index.json\"}";
+
+const SEMVER2_INDEX: &str =
+    "{\"@id\":\"http://f.test/v3/registration-semver2/foo/index.json\",\"commitId\":\"00000000-0000-0000-0000-000000000001\",\"commitTimeStamp\":\"2024-01-01T00:00:00.0000000Z\",\"count\":1,\"items\":[{\"@id\":\"http://f.test/v3/registration-semver2/foo/index.json#page/1.0.0/1.0.0\",\"count\":1,\"items\":[{\"@id\":\"http://f.test/v3/registration-semver2/foo/1.0.0.json\",\"catalogEntry\":{\"@id\":\"http://f.test/v3/catalog/data/1/0.json\",\"id\":\"Foo\",\"listed\":true,\"published\":\"2024-01-01T00:00:00.0000000Z\",\"version\":\"1.0.0\"},\"packageContent\":\"http://f.test/v3/flat/foo/1.0.0/foo.1.0.0.nupkg\"}],\"lower\":\"1.0.0\",\"parent\":\"http://f.test/v3/registration-semver2/foo/index.json\",\"upper\":\"1.0.0\"}]}";
+
+const SEMVER2_LEAF: &str =
+    "{\"@id\":\"http://f.test/v3/registration-semver2/foo/1.0.0.json\",\"catalogEntry\":\"http://f.test/v3/catalog/data/1/0.json\",\"listed\":true,\"packageContent\":\"http://f.test/v3/flat/foo/1.0.0/foo.1.0.0.nupkg\",\"published\":\"2024-01-01T00:00:00.0000000Z\",\"registration\":\"http://f.test/v3/registration-semver2/foo/index.json\"}";
+
 // What a command is given besides its words, and which calls of it fail.
 #[derive(Clone, Copy)]
 struct Given<'a> {
@@ -142,7 +154,7 @@ fn tells_each_status(rt: HostRuntime) -> Result<(), Fail> {
         (1, &[], plain, 2, USAGE),
         (1, &["publish", "publish"], plain, 2, USAGE),
         (1, &["Publish"], plain, 2, USAGE),
-        (1, &["job", "plain"], plain, 2, USAGE),
+        (1, &["job", "auto"], plain, 2, USAGE),
         (1, &["get", "a", "b"], plain, 2, USAGE),
         (0, &["init", "http://f.test"], plain, 2, USAGE),
         (0, publish, plain, 3, "refused uninitialised\n"),
@@ -352,8 +364,11 @@ fn a_failed_call_leaves_a_prefix(rt: HostRuntime) -> Result<(), Fail> {
     Ok(())
 }
 
+// A command's words and body, and the status and the text that it answers.
+type Step<'a> = (&'a [&'a str], &'a str, u8, &'a str);
+
 // Commands one behind the other on the same stores, from empty ones.
-const SESSION: [(&[&str], &str, u8, &str); 28] = [
+const SESSION: [Step<'_>; 27] = [
     (&["init", "http://f.test"], "", 2, USAGE),
     (&["init", "http://f.test/"], "", 0, "initialised\n"),
     (&["init", "http://f.test/"], "", 3, "refused initialised\n"),
@@ -385,25 +400,82 @@ const SESSION: [(&[&str], &str, u8, &str); 28] = [
     (&["get", "/v3/flat/foo/1.0.0/foo.1.0.0.nupkg"], "", 0, "abc"),
     (&["get", "/v3/flat/foo/1.0.1/foo.nuspec"], "", 3, MISSING),
     (&["get", "/v3/index.json"], "", 3, REFUSED),
-    (&["get", "/v3/registration/foo/index.json"], "", 3, REFUSED),
     (&["get", "index.json"], "", 3, MISSING),
+];
+
+// The same with the jobs of the registrations.
+const REGISTRATIONS: [Step<'_>; 17] = [
+    (&["init", "http://f.test/"], "", 0, "initialised\n"),
+    (&["job", "plain"], "", 0, "idle plain 0\n"),
+    (&["publish"], FOO, 0, DONE),
+    (&["get", "/v3/registration/foo/index.json"], "", 3, MISSING),
+    (&["job", "plain"], "", 0, "done plain 1\n"),
+    (&["job", "plain"], "", 3, REFUSED),
+    (&["job", "auto"], "", 2, USAGE),
+    (
+        &["get", "/v3/registration/foo/index.json"],
+        "",
+        0,
+        PLAIN_INDEX,
+    ),
+    (
+        &["get", "/v3/registration/foo/1.0.0.json?a=b"],
+        "",
+        0,
+        PLAIN_LEAF,
+    ),
+    (
+        &["get", "/v3/registration/foo/page/1.0.0/1.0.0.json"],
+        "",
+        3,
+        MISSING,
+    ),
+    (&["get", "/v3/registration/bar/index.json"], "", 3, MISSING),
+    (
+        &["get", "/v3/registration-semver2/foo/index.json"],
+        "",
+        3,
+        MISSING,
+    ),
+    (&["job", "semver2"], "", 0, "done semver2 1\n"),
+    (
+        &["get", "/v3/registration-semver2/foo/index.json"],
+        "",
+        0,
+        SEMVER2_INDEX,
+    ),
+    (
+        &["get", "/v3/registration-semver2/foo/1.0.0.json"],
+        "",
+        0,
+        SEMVER2_LEAF,
+    ),
+    (
+        &["get", "/v3/registration-semver2/foo/1.0.1.json"],
+        "",
+        3,
+        MISSING,
+    ),
+    (&["get", "/v3/flat/foo/index.json"], "", 3, MISSING),
 ];
 
 #[test]
 fn commands_follow_each_other(rt: HostRuntime) -> Result<(), Fail> {
     let alloc = rt.alloc();
-    let mut stores = empty(alloc, &[], &[])?;
-    for (place, (words, body, status, text)) in SESSION.iter().enumerate() {
-        let (told, output, left) = run(alloc, stores, words, with_body(body))?;
-        assert_eq!(rt; told, *status, "step {place}");
-        assert_eq!(rt; output.bytes(), text.as_bytes(), "step {place}");
-        stores = left;
-    }
-    for (name, text) in FIRST {
-        assert!(rt;
-            holds(alloc, &mut stores.catalog, name, text.as_bytes()),
-            "{name}"
-        );
+    for session in [&SESSION[..], &REGISTRATIONS[..]] {
+        let mut stores = empty(alloc, &[], &[])?;
+        for (place, (words, body, status, text)) in session.iter().enumerate() {
+            let (told, output, left) = run(alloc, stores, words, with_body(body))?;
+            assert_eq!(rt; told, *status, "step {place}");
+            assert_eq!(rt; output.bytes(), text.as_bytes(), "step {place}");
+            stores = left;
+        }
+        for (name, text) in FIRST {
+            assert!(rt;
+                holds(alloc, &mut stores.catalog, name, text.as_bytes()),
+                "{name}"
+            );
+        }
     }
     Ok(())
 }
@@ -483,7 +555,7 @@ fn broken_catalogs_are_not_opened(rt: HostRuntime) -> Result<(), Fail> {
 }
 
 // A blob of the catalog's area that is lost, and what a command then answers.
-const LOST: [(&str, &[&str], u8, &str); 12] = [
+const LOST: [(&str, &[&str], u8, &str); 14] = [
     ("page0.json", &["publish"], 3, REFUSED),
     ("index.json", &["publish"], 3, "refused uninitialised\n"),
     (
@@ -523,6 +595,18 @@ const LOST: [(&str, &[&str], u8, &str); 12] = [
         &["job", "content"],
         6,
         "damaged catalog/data/1/0.json\n",
+    ),
+    (
+        "data/1/0.json",
+        &["job", "plain"],
+        6,
+        "damaged catalog/data/1/0.json\n",
+    ),
+    (
+        "staged/1/0.nupkg",
+        &["job", "semver2"],
+        0,
+        "done semver2 1\n",
     ),
     (
         "staged/1/0.nupkg",
