@@ -1,5 +1,5 @@
 #!/bin/sh
-# Drives the built program `feed` on a folder of its own: init, publishes, the job of the content documents, gets, and
+# Drives the built program `feed` on a folder of its own: init, publishes, the jobs of two hives, gets, and
 # refusals, each of which has to leave every file as it was; then the lock on the folder, with processes side by side,
 # and the system calls of a publish. At the end it measures puts a second, which passes and fails nothing. What needs
 # python3 or strace is left out where that is missing. It takes about a minute, half of it in a wait for the lock.
@@ -157,6 +157,7 @@ for name in index.json page0.json data/1/0.json; do
   gets "/v3/catalog/$name"
 done
 refuses 'a get of content before a job' 3 'refused missing' get /v3/flat/foo/index.json
+refuses 'a get of a registration before a job' 3 'refused missing' get /v3/registration/foo/index.json
 
 # A job that finds no leaf stops before its first put, and so may be done again.
 mv "$store/catalog/data/1/0.json" "$work/leaf"
@@ -182,15 +183,27 @@ printf '%s' '<package/>' >"$work/want"
 holds content d/foo/1.0.0/foo.nuspec
 gets '/v3/flat/foo/1.0.0/foo.nuspec?semVerLevel=2.0.0'
 refuses 'a second job' 3 'refused unsupported' job content
-for path in /v3/index.json /v3/registration/foo/index.json /v3/registration-semver2/foo/1.0.0.json /v3/autocomplete /admin/cursor/content; do
+
+# The registration documents without SemVer 2.0.0 packages, in an area of their own.
+files >"$work/before"
+does 'done plain 1' job plain
+files | grep -v ' \./plain/' >"$work/after"
+cmp -s "$work/before" "$work/after"
+check 'a job of registrations leaves the other areas as they were'
+printf '%s' '{"@id":"http://f.test/v3/registration/foo/index.json","commitId":"'$zeros'1","commitTimeStamp":"'"$stamp"'","count":1,"items":[{"@id":"http://f.test/v3/registration/foo/index.json#page/1.0.0/1.0.0","count":1,"items":[{"@id":"http://f.test/v3/registration/foo/1.0.0.json","catalogEntry":{"@id":"http://f.test/v3/catalog/data/1/0.json","id":"Foo","listed":true,"published":"'"$stamp"'","version":"1.0.0"},"packageContent":"http://f.test/v3/flat/foo/1.0.0/foo.1.0.0.nupkg"}],"lower":"1.0.0","parent":"http://f.test/v3/registration/foo/index.json","upper":"1.0.0"}]}' >"$work/want"
+holds plain d/foo/index.json
+gets /v3/registration/foo/index.json
+refuses 'a second job of registrations' 3 'refused unsupported' job plain
+for path in /v3/index.json /v3/autocomplete /admin/cursor/content; do
   refuses 'a get that is not answered yet' 3 'refused unsupported' get "$path"
 done
-for path in /v3/catalog/page1.json /v3/catalog/data/2/0.json /v3/catalog/staged/1/0.nupkg /v3/flat/bar/index.json /v3/flat/Foo/index.json /v3/flat/foo/1.0.0/bar.nuspec /v3/flat/../catalog/index.json /admin/stop v3/catalog/index.json; do
+for path in /v3/catalog/page1.json /v3/catalog/data/2/0.json /v3/catalog/staged/1/0.nupkg /v3/flat/bar/index.json /v3/flat/Foo/index.json /v3/flat/foo/1.0.0/bar.nuspec /v3/flat/../catalog/index.json /v3/registration/foo/1.0.1.json /v3/registration-semver2/foo/1.0.0.json /admin/stop v3/catalog/index.json; do
   refuses 'a get of nothing' 3 'refused missing' get "$path"
 done
 
 refuses 'no word that is known' 2 "$usage" dance
 refuses 'a job of no hive' 2 "$usage" job red
+refuses 'a job of a hive that is not built yet' 2 "$usage" job auto
 refuses 'a job without a hive' 2 "$usage" job
 refuses 'a get without a path' 2 "$usage" get
 refuses 'a get of two paths' 2 "$usage" get /v3/catalog/index.json /v3/catalog/page0.json
@@ -215,9 +228,12 @@ cat >"$work/want" <<'EOF'
 ./content/d/foo/1.0.0/foo.1.0.0.nupkg
 ./content/d/foo/1.0.0/foo.nuspec
 ./content/d/foo/index.json
+./plain/cursor.json
+./plain/d/foo/1.0.0.json
+./plain/d/foo/index.json
 EOF
 cmp -s "$work/want" "$work/after"
-check 'the folder holds exactly the files of one publish and one job'
+check 'the folder holds exactly the files of one publish and two jobs'
 
 # A folder that isn't there is made by init alone.
 store=$work/absent

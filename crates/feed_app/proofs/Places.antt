@@ -6,9 +6,9 @@ use Rattle.feed_paths.specs.Hives.{served_under}
 use Rattle.feed_paths.specs.Paths.{IsHivePath}
 use Rattle.feed_paths.specs.declared.hives.ServedHive.{ServedHive}
 use Rattle.feed_paths.specs.declared.hives.ServedHive.TheVariants.{Plain, SemVer2, Content}
-use Rattle.feed_app.specs.Frame.{Asks, KeepsArea, Nothing, Touch, Touches, touch_of}
-use Rattle.feed_app.specs.Gets.{KeepsOthers, asked_under, get_reach}
-use Rattle.feed_app.specs.Hives.{by_hive, hive_area, hive_stores}
+use Rattle.feed_app.specs.Frame.{Asks, Keeps, KeepsArea, Nothing, Touch, Touches, touch_of}
+use Rattle.feed_app.specs.Gets.{asked_under, get_reach}
+use Rattle.feed_app.specs.Hives.{KeepsOthers, by_hive, hive_area, hive_stores}
 use Rattle.feed_app.specs.Jobs.{job_reach}
 use Rattle.feed_app.specs.Outside.{AreaRose, Members, area_of, held}
 
@@ -95,3 +95,28 @@ module _ {B : Type 0} (plain semver2 content other : B) where
   but_content Plain not = refl
   but_content SemVer2 not = refl
   but_content Content not = absurd (not refl)
+
+-- a job that leaves the other hives' stores leaves all that isn't in its reach
+pub job_keeps : {B : Type 0} (m : Members B) (before after : Stores B) (hive : ServedHive) → held m after.catalog ≡ held m before.catalog
+    → KeepsOthers hive (hive_stores before) (hive_stores after) → after.auto ≡ before.auto → Keeps m (job_reach hive) before after
+job_keeps m before after Plain catalog others auto = record {
+  catalog = catalog;
+  plain = tt;
+  semver2 = others SemVer2 (λ e. cc e);
+  content = others Content (λ e. cc e);
+  auto = auto;
+}
+job_keeps m before after SemVer2 catalog others auto = record {
+  catalog = catalog;
+  plain = others Plain (λ e. cc e);
+  semver2 = tt;
+  content = others Content (λ e. cc e);
+  auto = auto;
+}
+job_keeps m before after Content catalog others auto = record {
+  catalog = catalog;
+  plain = others Plain (λ e. cc e);
+  semver2 = others SemVer2 (λ e. cc e);
+  content = tt;
+  auto = auto;
+}

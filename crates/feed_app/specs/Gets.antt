@@ -13,7 +13,7 @@ use Rattle.feed_paths.specs.Paths.{IsCatalogPath, IsHivePath, IsNotYet, IsOfNone
 use Rattle.feed_paths.specs.declared.hives.ServedHive.{ServedHive}
 use Rattle.feed_paths.specs.declared.hives.ServedHive.TheVariants.{Plain, SemVer2, Content}
 use Rattle.feed_app.specs.Frame.{Meaning, Reach, Touch, Asks, Nothing, nothing}
-use Rattle.feed_app.specs.Hives.{hive_area, hive_stores}
+use Rattle.feed_app.specs.Hives.{KeepsAll, KeepsOthers, hive_area, hive_stores}
 use Rattle.feed_app.specs.Openings.{NotOpened}
 use Rattle.feed_app.specs.Outside.{Members, Sight, Stream, Shows, held}
 use Rattle.feed_app.specs.Writes.{HasMore}
@@ -43,14 +43,6 @@ OfHive hive (Refused Missing) rest told = IfSome told (λ m. get m (stored_name 
 OfHive hive (Fault name) rest told = name ≡ hive_area hive
 OfHive hive Memory rest told = ⊤
 OfHive hive _ rest told = ⊥
-
--- the store of each hive is the same value
-abbrev pub KeepsAll : {B : Type 0} → (ServedHive → B) → (ServedHive → B) → Type 0
-KeepsAll old new = (hive : ServedHive) → new hive ≡ old hive
-
--- so is that of each other hive
-abbrev pub KeepsOthers : {B : Type 0} → ServedHive → (ServedHive → B) → (ServedHive → B) → Type 0
-KeepsOthers hive old new = (other : ServedHive) → (other ≡ hive → ⊥) → new other ≡ old other
 
 -- what is answered by what the path names, where only a document of a hive asks a hive's area, its own
 abbrev pub Reads : {B : Type 0} → Members B → Answer → List ℕ → List ℕ → Catalog → Option Area → (ServedHive → B) → (ServedHive → B) → Type 0

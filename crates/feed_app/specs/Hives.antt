@@ -1,4 +1,5 @@
 -- The hives of the program: where each stands, and what it makes of a catalog.
+use Rattle.std.specs.Prelude.{◌≡◌}
 use Rattle.catalog_core.specs.declared.stores.Stores.{Stores}
 use Rattle.fold_core.specs.Docs.{Makes}
 use Rattle.fold_core.specs.Entries.{Keeps}
@@ -38,3 +39,11 @@ by_hive plain semver2 content Content = content
 -- the stores of the hives
 abbrev pub hive_stores : {B : Type 0} → Stores B → ServedHive → B
 hive_stores stores = by_hive stores.plain stores.semver2 stores.content
+
+-- the store of every hive is the same value
+abbrev pub KeepsAll : {B : Type 0} → (ServedHive → B) → (ServedHive → B) → Type 0
+KeepsAll old new = (hive : ServedHive) → new hive ≡ old hive
+
+-- that of every hive but this one is
+abbrev pub KeepsOthers : {B : Type 0} → ServedHive → (ServedHive → B) → (ServedHive → B) → Type 0
+KeepsOthers hive old new = (other : ServedHive) → (other ≡ hive → ⊥) → new other ≡ old other

@@ -2,9 +2,9 @@
 ghost use Rattle.std.specs.Prelude.{◌≡◌, ◌≤◌, ℕ, List, Option};
 ghost use Rattle.feed_base.specs.Counts.{HasRisen};
 ghost use Rattle.feed_app.specs.Frame.{IsDone};
-ghost use Rattle.feed_app.specs.Hives.{hive_area};
-ghost use Rattle.feed_app.specs.Jobs.{Builds, ForPlain, Jobs, job_meaning};
-ghost use Rattle.feed_app.specs.Outside.{Stream, over};
+ghost use Rattle.feed_app.specs.Hives.{KeepsOthers, by_hive, hive_area, keeps_in, makes_in};
+ghost use Rattle.feed_app.specs.Jobs.{Builds, ForPlain, job_meaning};
+ghost use Rattle.feed_app.specs.Outside.{AreaRose, Stream, held, over};
 
 use crate::answer::{Answer, Reply};
 use crate::area::AreaName;
@@ -18,7 +18,7 @@ use reg_docs::{Plain, SemVer2};
 use std::alloc::Global;
 
 // Builds the hive of an open catalog in its area.
-fn build<H: Hive, B: Blobs>(
+fn job_in<H: Hive, B: Blobs>(
     alloc: Global,
     catalog: &mut Catalog<B>,
     area: &mut B,
@@ -38,25 +38,32 @@ fn build<H: Hive, B: Blobs>(
     }
 }
 
-// Opens the catalog, and builds the hive of it in its area, where that has no cursor.
-fn job_in<H: Hive, B: Blobs>(alloc: Global, catalog: B, area: B, hive: ServedHive) -> (Answer, B, B)
-    ensures is { Jobs H.keeps H.makes hive result.0 (B.seen catalog).held (result.2 ≡ area) (B.seen area).held (B.seen result.2).held }
-    ensures catalog_cause { result.0 ≡ Answer.Fault AreaName.Catalog → HasRisen (B.seen catalog).faults (B.seen result.1).faults }
-    ensures hive_cause { result.0 ≡ Answer.Fault (hive_area hive) → HasRisen (B.seen area).faults (B.seen result.2).faults }
-    ensures same { (B.seen result.1).held ≡ (B.seen catalog).held }
+// Builds this hive of an open catalog, in one of the areas of the hives.
+fn job_of<B: Blobs>(
+    alloc: Global,
+    catalog: &mut Catalog<B>,
+    plain: &mut B,
+    semver2: &mut B,
+    content: &mut B,
+    hive: ServedHive,
+) -> Answer
+    ensures is { ForPlain catalog.old.rows (λ cs. Builds (keeps_in hive) (makes_in hive) hive result catalog.old.base cs (B.seen catalog.old.area).held
+        (held B.Blobs (by_hive plain.old semver2.old content.old hive)) (held B.Blobs (by_hive plain.new semver2.new content.new hive))) }
+    ensures catalog_cause { result ≡ Answer.Fault AreaName.Catalog → HasRisen (B.seen catalog.old.area).faults (B.seen catalog.new.area).faults }
+    ensures hive_cause { result ≡ Answer.Fault (hive_area hive)
+        → AreaRose B.Blobs (by_hive plain.old semver2.old content.old hive) (by_hive plain.new semver2.new content.new hive) }
+    ensures others { KeepsOthers hive (by_hive plain.old semver2.old content.old) (by_hive plain.new semver2.new content.new) }
+    ensures same { (B.seen catalog.new.area).held ≡ (B.seen catalog.old.area).held }
+    ensures later { (B.seen catalog.old.area).faults ≤ (B.seen catalog.new.area).faults }
 {
-    match open_catalog(alloc, catalog) {
-        Ok(catalog) => {
-            let mut catalog = catalog;
-            let mut area = area;
-            let answer = build::<H, B>(alloc, &mut catalog, &mut area, hive);
-            (answer, catalog.into_area(), area)
-        }
-        Err((error, catalog)) => (Answer::of_opening(error), catalog, area),
+    match hive {
+        ServedHive::Plain => job_in::<Plain, B>(alloc, catalog, plain, hive),
+        ServedHive::SemVer2 => job_in::<SemVer2, B>(alloc, catalog, semver2, hive),
+        ServedHive::Content => job_in::<Content, B>(alloc, catalog, content, hive),
     }
 }
 
-/// Builds the hive of the catalog that the catalog's area holds.
+/// Opens the catalog, and builds the hive of it, where the hive's area has no cursor.
 pub(crate) fn job<B: Blobs>(
     alloc: Global,
     stores: Stores<B>,
@@ -66,39 +73,23 @@ pub(crate) fn job<B: Blobs>(
         → IsDone B.Blobs (job_meaning B.Blobs hive) (over stores input clock) result.0 (over result.1 input clock) }
 {
     let mut stores = stores;
-    match hive {
-        ServedHive::Plain => {
-            let (answer, catalog, area) = job_in::<Plain, B>(
+    match open_catalog(alloc, stores.catalog) {
+        Ok(catalog) => {
+            let mut catalog = catalog;
+            let answer = job_of(
                 alloc,
-                stores.catalog,
-                stores.plain,
+                &mut catalog,
+                &mut stores.plain,
+                &mut stores.semver2,
+                &mut stores.content,
                 hive,
             );
-            stores.catalog = catalog;
-            stores.plain = area;
+            stores.catalog = catalog.into_area();
             (answer, stores)
         }
-        ServedHive::SemVer2 => {
-            let (answer, catalog, area) = job_in::<SemVer2, B>(
-                alloc,
-                stores.catalog,
-                stores.semver2,
-                hive,
-            );
-            stores.catalog = catalog;
-            stores.semver2 = area;
-            (answer, stores)
-        }
-        ServedHive::Content => {
-            let (answer, catalog, area) = job_in::<Content, B>(
-                alloc,
-                stores.catalog,
-                stores.content,
-                hive,
-            );
-            stores.catalog = catalog;
-            stores.content = area;
-            (answer, stores)
+        Err((error, area)) => {
+            stores.catalog = area;
+            (Answer::of_opening(error), stores)
         }
     }
 }

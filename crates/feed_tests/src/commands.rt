@@ -3,6 +3,7 @@ use blob_store::{Blobs, Fail as Fault, MemBlobs};
 use feed_app::{Stores, run_command};
 use feed_base::{Bytes, ClockList, NoMemory, SinkMem, SourceMem};
 use std::alloc::Global;
+use std::process::Abort;
 use std::test::Fail;
 
 // 2024-01-01T00:00:00
@@ -459,24 +460,28 @@ const REGISTRATIONS: [Step<'_>; 17] = [
     (&["get", "/v3/flat/foo/index.json"], "", 3, MISSING),
 ];
 
+// Asserts what each of the steps answers, from empty stores on, and that the catalog is that of the first publish.
+fn follow(rt: &impl Abort, alloc: Global, steps: &[Step<'_>]) -> Result<(), NoMemory> {
+    let mut stores = empty(alloc, &[], &[])?;
+    for (place, (words, body, status, text)) in steps.iter().enumerate() {
+        let (told, output, left) = run(alloc, stores, words, with_body(body))?;
+        assert_eq!(rt; told, *status, "step {place}");
+        assert_eq!(rt; output.bytes(), text.as_bytes(), "step {place}");
+        stores = left;
+    }
+    for (name, text) in FIRST {
+        assert!(rt;
+            holds(alloc, &mut stores.catalog, name, text.as_bytes()),
+            "{name}"
+        );
+    }
+    Ok(())
+}
+
 #[test]
 fn commands_follow_each_other(rt: HostRuntime) -> Result<(), Fail> {
-    let alloc = rt.alloc();
-    for session in [&SESSION[..], &REGISTRATIONS[..]] {
-        let mut stores = empty(alloc, &[], &[])?;
-        for (place, (words, body, status, text)) in session.iter().enumerate() {
-            let (told, output, left) = run(alloc, stores, words, with_body(body))?;
-            assert_eq!(rt; told, *status, "step {place}");
-            assert_eq!(rt; output.bytes(), text.as_bytes(), "step {place}");
-            stores = left;
-        }
-        for (name, text) in FIRST {
-            assert!(rt;
-                holds(alloc, &mut stores.catalog, name, text.as_bytes()),
-                "{name}"
-            );
-        }
-    }
+    follow(&rt, rt.alloc(), &SESSION)?;
+    follow(&rt, rt.alloc(), &REGISTRATIONS)?;
     Ok(())
 }
 

@@ -1,26 +1,20 @@
-use Rattle.std.proofs.Common.{refl}
-use Rattle.feed_paths.specs.declared.hives.ServedHive.TheVariants as the
-use Rattle.feed_app.specs.Outside.{over}
-use Rattle.feed_app.proofs.Jobs.{job_done}
+use Rattle.std.proofs.Common.{◌≡◌, ◌∙◌, ap, refl, arith}
+use Rattle.feed_app.specs.Hives.{hive_stores, keeps_in, makes_in}
+use Rattle.feed_app.specs.Outside.{held, over}
+use Rattle.feed_app.proofs.Jobs.{built_of, job_done}
+use Rattle.feed_app.proofs.Places.{job_keeps}
 use Rattle.feed_app.proofs.job.job.Goals as goal
 
-pub returns-in-Plain : goal.returns-in-Plain
-returns-in-Plain g c = λ input clock.
-    let left = record c.args.stores { catalog = c.job_in-answer.result.1; plain = c.job_in-answer.result.2 } in
-    rw c.in-Plain.is (job_done g.B.Blobs the.Plain (over c.args.stores input clock) (over left input clock) c.job_in-answer.result.0
-    (record { catalog = c.job_in-answer.ensures.same; plain = tt; semver2 = refl; content = refl; auto = refl })
-    c.job_in-answer.ensures.catalog_cause (rw c.in-Plain.is at c.job_in-answer.ensures.hive_cause) (rw c.in-Plain.is at c.job_in-answer.ensures.is))
-
-pub returns-in-SemVer2 : goal.returns-in-SemVer2
-returns-in-SemVer2 g c = λ input clock.
-    let left = record c.args.stores { catalog = c.job_in-answer-in-SemVer2.result.1; semver2 = c.job_in-answer-in-SemVer2.result.2 } in
-    rw c.in-SemVer2.is (job_done g.B.Blobs the.SemVer2 (over c.args.stores input clock) (over left input clock) c.job_in-answer-in-SemVer2.result.0
-    (record { catalog = c.job_in-answer-in-SemVer2.ensures.same; plain = refl; semver2 = tt; content = refl; auto = refl })
-    c.job_in-answer-in-SemVer2.ensures.catalog_cause (rw c.in-SemVer2.is at c.job_in-answer-in-SemVer2.ensures.hive_cause) (rw c.in-SemVer2.is at c.job_in-answer-in-SemVer2.ensures.is))
-
-pub returns-in-Content : goal.returns-in-Content
-returns-in-Content g c = λ input clock.
-    let left = record c.args.stores { catalog = c.job_in-answer-in-Content.result.1; content = c.job_in-answer-in-Content.result.2 } in
-    rw c.in-Content.is (job_done g.B.Blobs the.Content (over c.args.stores input clock) (over left input clock) c.job_in-answer-in-Content.result.0
-    (record { catalog = c.job_in-answer-in-Content.ensures.same; plain = refl; semver2 = refl; content = tt; auto = refl })
-    c.job_in-answer-in-Content.ensures.catalog_cause (rw c.in-Content.is at c.job_in-answer-in-Content.ensures.hive_cause) (rw c.in-Content.is at c.job_in-answer-in-Content.ensures.is))
+pub returns-in-Ok : goal.returns-in-Ok
+returns-in-Ok g c = λ input clock.
+    let m = g.B.Blobs in
+    let hive = c.args.hive in
+    let old = hive_stores c.args.stores hive in
+    let left = record c.args.stores { catalog = c.into_area.result; plain = c.job_of-answer.new.plain; semver2 = c.job_of-answer.new.semver2; content = c.job_of-answer.new.content } in
+    let new = hive_stores left hive in
+    job_done m hive (over c.args.stores input clock) (over left input clock) c.job_of-answer.result
+    (job_keeps m c.args.stores left hive (ap (λ s. (m.seen s).held) c.into_area.ensures ∙ (c.job_of-answer.ensures.same ∙ c.in-Ok.ensures.kept)) c.job_of-answer.ensures.others refl)
+    (λ e. omega (arith, c.in-Ok.ensures.later, c.job_of-answer.ensures.catalog_cause e, ap (λ s. (m.seen s).faults) c.into_area.ensures))
+    c.job_of-answer.ensures.hive_cause
+    (built_of (keeps_in hive) (makes_in hive) hive c.job_of-answer.result c.in-Ok.catalog.base c.in-Ok.catalog.rows (held m c.in-Ok.catalog.area) (held m c.args.stores.catalog)
+    (new ≡ old) (held m old) (held m new) c.in-Ok.ensures.kept c.in-Ok.ensures.ok c.job_of-answer.ensures.is)

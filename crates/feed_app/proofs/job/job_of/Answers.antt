@@ -1,0 +1,29 @@
+use Rattle.feed_app.proofs.Places.{but_content, but_plain, but_semver2}
+use Rattle.feed_app.proofs.job.job_of.Goals as goal
+
+pub returns-in-Plain-clause-is : goal.returns-in-Plain-clause-is
+returns-in-Plain-clause-is g c = rw c.in-Plain.is (rw c.in-Plain.is at c.job_in.ensures.is)
+
+pub returns-in-Plain-clause-hive_cause : goal.returns-in-Plain-clause-hive_cause
+returns-in-Plain-clause-hive_cause g c = rw c.in-Plain.is (rw c.in-Plain.is at c.job_in.ensures.hive_cause)
+
+pub returns-in-Plain-clause-others : goal.returns-in-Plain-clause-others
+returns-in-Plain-clause-others g c = rw c.in-Plain.is (but_plain c.args.plain.now c.args.semver2.now c.args.content.now c.job_in.new.area)
+
+pub returns-in-SemVer2-clause-is : goal.returns-in-SemVer2-clause-is
+returns-in-SemVer2-clause-is g c = rw c.in-SemVer2.is (rw c.in-SemVer2.is at c.job_in-in-SemVer2.ensures.is)
+
+pub returns-in-SemVer2-clause-hive_cause : goal.returns-in-SemVer2-clause-hive_cause
+returns-in-SemVer2-clause-hive_cause g c = rw c.in-SemVer2.is (rw c.in-SemVer2.is at c.job_in-in-SemVer2.ensures.hive_cause)
+
+pub returns-in-SemVer2-clause-others : goal.returns-in-SemVer2-clause-others
+returns-in-SemVer2-clause-others g c = rw c.in-SemVer2.is (but_semver2 c.args.plain.now c.args.semver2.now c.args.content.now c.job_in-in-SemVer2.new.area)
+
+pub returns-in-Content-clause-is : goal.returns-in-Content-clause-is
+returns-in-Content-clause-is g c = rw c.in-Content.is (rw c.in-Content.is at c.job_in-in-Content.ensures.is)
+
+pub returns-in-Content-clause-hive_cause : goal.returns-in-Content-clause-hive_cause
+returns-in-Content-clause-hive_cause g c = rw c.in-Content.is (rw c.in-Content.is at c.job_in-in-Content.ensures.hive_cause)
+
+pub returns-in-Content-clause-others : goal.returns-in-Content-clause-others
+returns-in-Content-clause-others g c = rw c.in-Content.is (but_content c.args.plain.now c.args.semver2.now c.args.content.now c.job_in-in-Content.new.area)
