@@ -1,0 +1,9 @@
+pub mod Behind
+pub mod Headers
+pub mod Marks
+pub mod OneLine
+pub mod OneRecord
+pub mod OneStop
+pub mod TwoWords
+pub mod Versions
+pub mod WordTexts
