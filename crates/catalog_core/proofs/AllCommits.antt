@@ -1,80 +1,123 @@
--- The commits of a catalog of single items, whose leaves an area holds.
-use Rattle.std.proofs.Common.{◌≡◌, ◌∙◌, ℕ, suc, List, [], ◌∷◌, ◌++◌, length, Option, Some, IfSome, IfOk, IfErr, Result, refl, subst, arith}
-use Rattle.std.specs.List.{Contains}
-use Rattle.feed_base.proofs.Options.{weaker}
+-- The commits of a catalog, from its rows and its items.
+use Rattle.std.proofs.Common.{◌≡◌, ◌<◌, ◌+◌, ℕ, suc, List, [], ◌∷◌, ◌++◌, length, length-append, append_assoc, append-nil, map, Some, refl, sym, ◌∙◌, ap, subst, arith}
+use Rattle.std.specs.Prelude.{Contains, nat_eq, slice_get, ⊤}
+use Rattle.std.specs.FinMap.{get}
 use Rattle.blob_store.specs.Area.{Area}
 use Rattle.pkg_meta.specs.Catalog.{Catalog}
-use Rattle.pkg_meta.specs.declared.commit.Stored.{Stored}
+use Rattle.pkg_meta.specs.Lawful.{MayFollow}
 use Rattle.pkg_meta.specs.declared.commit.Commit.{Commit}
+use Rattle.pkg_meta.specs.declared.commit.Stored.{Stored}
 use Rattle.pkg_meta.specs.declared.item.Item.{Item}
-use Rattle.catalog_doc.specs.CatDocs.{all_rows, Doc, leaves_from, rows_from}
-use Rattle.catalog_core.specs.Leaves.{all_leaves, AreCommitsAt, commits_of, HasNoLeaf, HaveValues, HoldsDocs, HoldsLeaves}
-use Rattle.std.specs.FinMap.{get}
-use Rattle.std.specs.Prelude.{slice_get}
-use Rattle.std.proofs.lemmas.Option.{slice_get_within}
+use Rattle.catalog_doc.specs.CatDocs.{all_rows, rows_from, rows_of}
+use Rattle.catalog_doc.specs.Catalogs.{all_items, IsCatalog}
 use Rattle.catalog_doc.specs.Documents.{leaf_text}
 use Rattle.catalog_doc.specs.Names.{leaf_name}
-use Rattle.catalog_core.specs.Reads.{IfDamaged, IsRead}
-use Rattle.catalog_core.specs.Verdicts.{AreSingle, ForCatalogsOf, IsSimple}
-use Rattle.catalog_core.specs.declared.error.ReadErr.{ReadErr}
+use Rattle.catalog_doc.specs.Reading.{IsItemValue}
+use Rattle.catalog_doc.specs.Spelled.{HoldsCommit}
 use Rattle.catalog_doc.specs.declared.row.Row.{Row}
-use Rattle.catalog_core.proofs.OneLeaf.{leaf_doc}
+use Rattle.catalog_laws.proofs.ItemValues.{item_values}
+use Rattle.catalog_items.specs.Leaves.{AreItemValues, commit_of_one, commits_with, HoldsLeaves, with_item}
+use Rattle.catalog_items.proofs.LeafReads.{if_false, if_true, other_number, same_number}
 
-one_at : (m : Area) (base : List ℕ) (n s : ℕ) (items : List Item) (rest : List Doc) (rows : List Row) (others : List Commit) → length items ≡ 1
-    → HoldsDocs m (leaves_from base n s 0 items ++ rest) → (HoldsDocs m rest → AreCommitsAt m base rows others)
-    → AreCommitsAt m base (rows_from n s 0 items ++ rows) (record { number = n; stamp = s; items = items } ∷ others)
-one_at m base n s [] rest rows others one held more = absurd (omega (arith, one))
-one_at m base n s (it ∷ []) rest rows others one held more =
-    (record { item = it; own = record { id = refl; version = refl; kind = refl }; leaf = held.0; is = refl }, more held.1)
-one_at m base n s (it ∷ other ∷ items) rest rows others one held more = absurd (omega (arith, one))
+-- the leaves of rows, one list behind the other
+module _ (m : Area) (base : List ℕ) where
+  both_held : (xs ys : List Row) (is js : List Item) → HoldsLeaves m base xs is → HoldsLeaves m base ys js → HoldsLeaves m base (xs ++ ys) (is ++ js)
+  both_held [] ys [] js first second = second
+  both_held [] ys (it ∷ is) js first second = absurd first
+  both_held (x ∷ xs) ys [] js first second = absurd first
+  both_held (x ∷ xs) ys (it ∷ is) js first second = (first.0, both_held xs ys is js first.1 second)
 
-commits_held : (m : Area) (base : List ℕ) (number : ℕ) (cs : Catalog) → AreSingle number cs → HoldsDocs m (all_leaves base cs) → AreCommitsAt m base (all_rows cs) (commits_of cs)
-commits_held m base number [] single held = tt
-commits_held m base number (c ∷ cs) single held =
-    one_at m base c.commit.number c.commit.stamp c.commit.items (all_leaves base cs) (all_rows cs) (commits_of cs) single.1 held
-    (λ rest. commits_held m base (suc number) cs single.3 rest)
+  items_held : (number stamp place : ℕ) (items : List Item)
+      → ((k : ℕ) (it : Item) → slice_get items k ≡ Some it → get m (leaf_name number (place + k)) ≡ Some (leaf_text base number (place + k) stamp it))
+      → HoldsLeaves m base (rows_from number stamp place items) items
+  items_held number stamp place [] held = tt
+  items_held number stamp place (it ∷ items) held = (
+    record {
+      own = record { id = refl; version = refl; kind = refl };
+      leaf = subst (λ (p : ℕ). get m (leaf_name number p) ≡ Some (leaf_text base number p stamp it)) (let same : place + 0 ≡ place = omega arith in same) (held 0 it refl);
+    },
+    items_held number stamp (suc place) items (λ k x is.
+        subst (λ (p : ℕ). get m (leaf_name number p) ≡ Some (leaf_text base number p stamp x)) (let same : place + suc k ≡ suc place + k = omega arith in same) (held (suc k) x is)),
+  )
 
--- what an answer says
-abbrev pub FoundAt : Result (List Commit) ReadErr → Option Area → List ℕ → List Row → Type 0
-FoundAt r held base rows = IfOk r (λ commits. IfSome held (λ m. AreCommitsAt m base rows commits))
+  commit_held : (c : Stored) → HoldsCommit m base c → HoldsLeaves m base (rows_of c) c.commit.items
+  commit_held c holds = items_held c.commit.number c.commit.stamp 0 c.commit.items
+      (λ k it is. subst (λ (p : ℕ). get m (leaf_name c.commit.number p) ≡ Some (leaf_text base c.commit.number p c.commit.stamp it)) (let same : k ≡ 0 + k = omega arith in same) (holds.leaves k it is))
 
-abbrev pub ExactAt : Result (List Commit) ReadErr → Option Area → List ℕ → List Row → Type 0
-ExactAt r held base rows = (wanted : List Commit) → HaveValues wanted → IfSome held (λ m. AreCommitsAt m base rows wanted → IsRead wanted r)
+  pub all_held : (cs : Catalog) → ((c : Stored) → Contains cs c → HoldsCommit m base c) → HoldsLeaves m base (all_rows cs) (all_items cs)
+  all_held [] holds = tt
+  all_held (c ∷ cs) holds =
+      both_held (rows_of c) (all_rows cs) c.commit.items (all_items cs) (commit_held c (holds c (0, omega arith, refl)))
+      (all_held cs (λ d there. holds d (suc there.0, omega (arith, there.1), there.2)))
 
-abbrev pub DamagedAt : Result (List Commit) ReadErr → Option Area → List ℕ → List Row → Type 0
-DamagedAt r held base rows =
-    IfErr r (λ e. IfDamaged e (λ n. (row : Row) × Contains rows row × (n ≡ leaf_name row.number row.place) × IfSome held (λ m. HasNoLeaf m base row)))
+values_append : (xs ys : List Item) → AreItemValues xs → AreItemValues ys → AreItemValues (xs ++ ys)
+values_append [] ys first second = second
+values_append (x ∷ xs) ys first second = (first.0, values_append xs ys first.1 second)
 
--- the area holds the leaf of each item of a commit
-abbrev HoldsItem : Area → List ℕ → ℕ → ℕ → List Item → Type 0
-HoldsItem m base n s items = (it : Item) → slice_get items 0 ≡ Some it → get m (leaf_name n 0) ≡ Some (leaf_text base n 0 s it)
+values_of : (items : List Item) → ((place : ℕ) (it : Item) → slice_get items place ≡ Some it → IsItemValue it) → AreItemValues items
+values_of [] each = tt
+values_of (it ∷ items) each = (each 0 it refl, values_of items (λ place x is. each (suc place) x is))
 
-one_doc : (m : Area) (base : List ℕ) (n s : ℕ) (items : List Item) (rest : List Doc) → length items ≡ 1 → HoldsItem m base n s items → HoldsDocs m rest
-    → HoldsDocs m (leaves_from base n s 0 items ++ rest)
-one_doc m base n s [] rest one item held = absurd (omega (arith, one))
-one_doc m base n s (it ∷ []) rest one item held = (item it refl, held)
-one_doc m base n s (it ∷ other ∷ items) rest one item held = absurd (omega (arith, one))
+values_in : (cs : Catalog) → ((c : Stored) (place : ℕ) (it : Item) → Contains cs c → slice_get c.commit.items place ≡ Some it → IsItemValue it) → AreItemValues (all_items cs)
+values_in [] each = tt
+values_in (c ∷ cs) each =
+    values_append c.commit.items (all_items cs) (values_of c.commit.items (λ place it is. each c place it (0, omega arith, refl) is))
+    (values_in cs (λ d place it there is. each d place it (suc there.0, omega (arith, there.1), there.2) is))
 
-docs_held : (m : Area) (base : List ℕ) (number : ℕ) (cs : Catalog) → AreSingle number cs
-    → ((c : Stored) → Contains cs c → HoldsItem m base c.commit.number c.commit.stamp c.commit.items) → HoldsDocs m (all_leaves base cs)
-docs_held m base number [] single each = tt
-docs_held m base number (c ∷ cs) single each =
-    one_doc m base c.commit.number c.commit.stamp c.commit.items (all_leaves base cs) single.1 (each c (0, omega arith, refl))
-    (docs_held m base (suc number) cs single.3 (λ d there. each d (suc there.0, omega (arith, there.1), there.2)))
+pub all_values : (cs : Catalog) → IsCatalog cs → AreItemValues (all_items cs)
+all_values cs lawful = values_in cs (item_values cs lawful)
 
-leaves_held : (m : Area) (base : List ℕ) (cs : Catalog) → IsSimple cs → HoldsLeaves m base cs → HoldsDocs m (all_leaves base cs)
-leaves_held m base cs simple holds =
-    docs_held m base 1 cs simple.commits (λ c there it at. holds c 0 there (slice_get_within c.commit.items 0 it at) ∙ leaf_doc base cs c 0 it simple there at)
+-- the commits have lower numbers
+abbrev AreBelow : ℕ → List Commit → Type 0
+AreBelow n [] = ⊤
+AreBelow n (c ∷ cs) = (c.number < n) × AreBelow n cs
 
-pub exact_commits : (r : Result (List Commit) ReadErr) (held : Option Area) (base : List ℕ) (rows : List Row) → ExactAt r held base rows
-    → ForCatalogsOf rows (λ cs. HaveValues (commits_of cs) → IfSome held (λ m. HoldsLeaves m base cs → IsRead (commits_of cs) r))
-exact_commits r held base rows exact cs simple are fits =
-    weaker held (λ m. AreCommitsAt m base rows (commits_of cs) → IsRead (commits_of cs) r) (λ m. HoldsLeaves m base cs → IsRead (commits_of cs) r)
-    (λ m read leaves. read (subst (λ (l : List Row). AreCommitsAt m base l (commits_of cs)) are (commits_held m base 1 cs simple.commits (leaves_held m base cs simple leaves))))
-    (exact (commits_of cs) fits)
+below_more : (n : ℕ) (cs : List Commit) (c : Commit) → AreBelow n cs → c.number ≡ n → AreBelow (n + 1) (cs ++ c ∷ [])
+below_more n [] c low is = (omega (arith, is), tt)
+below_more n (d ∷ cs) c low is = (omega (arith, low.0), below_more n cs c low.1 is)
 
--- the same of equal areas, base addresses and rows
-pub moved : (P : Option Area → List ℕ → List Row → Type 0) (h held : Option Area) (b base : List ℕ) (l rows : List Row) → h ≡ held → b ≡ base → l ≡ rows
-    → P h b l → P held base rows
-moved P h held b base l rows area_is base_is rows_are holds =
-    subst (λ (x : Option Area). P x base rows) area_is (subst (λ (x : List ℕ). P h x rows) base_is (subst (λ (x : List Row). P h b x) rows_are holds))
+in_new : (cs : List Commit) (row : Row) (it : Item) → AreBelow row.number cs → with_item cs row it ≡ cs ++ commit_of_one row it ∷ []
+in_new [] row it low = refl
+in_new (c ∷ []) row it low =
+    if_false (nat_eq c.number row.number) _ (c ∷ commit_of_one row it ∷ []) (other_number c.number row.number (λ same. absurd (omega (arith, same, low.0))))
+in_new (c ∷ d ∷ cs) row it low = ap (λ (l : List Commit). c ∷ l) (in_new (d ∷ cs) row it low.1)
+
+abbrev grown : Commit → Item → Commit
+grown c it = record { number = c.number; stamp = c.stamp; items = c.items ++ it ∷ [] }
+
+in_last : (cs : List Commit) (c : Commit) (row : Row) (it : Item) → c.number ≡ row.number → with_item (cs ++ c ∷ []) row it ≡ cs ++ grown c it ∷ []
+in_last [] c row it same = if_true (nat_eq c.number row.number) _ (c ∷ commit_of_one row it ∷ []) (same_number c.number row.number same)
+in_last (d ∷ []) c row it same = ap (λ (l : List Commit). d ∷ l) (in_last [] c row it same)
+in_last (d ∷ e ∷ cs) c row it same = ap (λ (l : List Commit). d ∷ l) (in_last (e ∷ cs) c row it same)
+
+-- the rest of a commit's items
+rest_of : (cs : List Commit) (number stamp place : ℕ) (done items : List Item) (rows : List Row) (others : List Item)
+    → commits_with (cs ++ (record { number = number; stamp = stamp; items = done }) ∷ []) (rows_from number stamp place items ++ rows) (items ++ others)
+    ≡ commits_with (cs ++ (record { number = number; stamp = stamp; items = done ++ items }) ∷ []) rows others
+rest_of cs number stamp place done [] rows others =
+    ap (λ (l : List Item). commits_with (cs ++ (record { number = number; stamp = stamp; items = l }) ∷ []) rows others) (sym (append-nil done))
+rest_of cs number stamp place done (it ∷ items) rows others =
+    ap (λ (l : List Commit). commits_with l (rows_from number stamp (suc place) items ++ rows) (items ++ others)) (in_last cs _ _ it refl)
+    ∙ rest_of cs number stamp (suc place) (done ++ it ∷ []) items rows others
+    ∙ ap (λ (l : List Item). commits_with (cs ++ (record { number = number; stamp = stamp; items = l }) ∷ []) rows others) (append_assoc done (it ∷ []) items)
+
+-- a whole commit
+one_of : (cs : List Commit) (number stamp : ℕ) (items : List Item) (rows : List Row) (others : List Item) → AreBelow number cs → 0 < length items
+    → commits_with cs (rows_from number stamp 0 items ++ rows) (items ++ others) ≡ commits_with (cs ++ (record { number = number; stamp = stamp; items = items }) ∷ []) rows others
+one_of cs number stamp [] rows others low some = absurd (omega (arith, some))
+one_of cs number stamp (it ∷ items) rows others low some =
+    ap (λ (l : List Commit). commits_with l (rows_from number stamp 1 items ++ rows) (items ++ others)) (in_new cs _ it low)
+    ∙ rest_of cs number stamp 1 (it ∷ []) items rows others
+
+all_of : (before cs : Catalog) (done : List Commit) → MayFollow before cs → AreBelow (length before + 1) done → commits_with done (all_rows cs) (all_items cs) ≡ done ++ map (λ (c : Stored). c.commit) cs
+all_of before [] done follows low = sym (append-nil done)
+all_of before (c ∷ cs) done follows low =
+    let number : c.commit.number ≡ length before + 1 = follows.0.number in
+    let below : AreBelow c.commit.number done = subst (λ (n : ℕ). AreBelow n done) (sym number) low in
+    let count : c.commit.number + 1 ≡ length (before ++ c ∷ []) + 1 = ap (λ (n : ℕ). n + 1) (number ∙ sym (length-append before (c ∷ []))) in
+    one_of done c.commit.number c.commit.stamp c.commit.items (all_rows cs) (all_items cs) below follows.0.some
+    ∙ all_of (before ++ c ∷ []) cs (done ++ c.commit ∷ []) follows.1 (subst (λ (n : ℕ). AreBelow n (done ++ c.commit ∷ [])) count (below_more c.commit.number done c.commit below refl))
+    ∙ append_assoc done (c.commit ∷ []) (map (λ (d : Stored). d.commit) cs)
+
+pub all_commits : (cs : Catalog) → IsCatalog cs → commits_with [] (all_rows cs) (all_items cs) ≡ map (λ (c : Stored). c.commit) cs
+all_commits cs lawful = all_of [] cs [] lawful.lawful.commits tt

@@ -1,10 +1,5 @@
-pub mod Commits
+pub mod Committing
 pub mod Errors
-pub mod Heads
-pub mod Laws
-pub mod Leaves
+pub mod Framing
 pub mod Opened
-pub mod Plain
-pub mod Reads
-pub mod Verdicts
-pub mod Whole
+pub mod Openings

@@ -1,39 +1,51 @@
--- What an open catalog is, and which areas it opens.
-use Rattle.std.specs.Prelude.{◌≡◌, ℕ, List, Option, Some, IfSome}
-use Rattle.std.specs.FinMap.{get}
-use Rattle.std.specs.Str.{IsUtf8}
+-- What an open catalog is, and which catalogs it is open for.
+use Rattle.std.specs.Prelude.{◌≡◌, ◌⊎◌, ℕ, List, [], ◌∷◌, ◌++◌, Bool, true, false, if◌then◌else◌}
 use Rattle.blob_store.specs.Area.{Area}
+use Rattle.blob_store.specs.Seen.{Seen}
 use Rattle.pkg_meta.specs.Catalog.{Catalog}
-use Rattle.catalog_doc.specs.CatDocs.{all_rows, doc_at}
-use Rattle.catalog_doc.specs.Documents.{index_text}
-use Rattle.catalog_doc.specs.Names.{index_name, page_name}
-use Rattle.catalog_core.specs.Plain.{IsPlain}
-use Rattle.catalog_doc.specs.Reading.{one_head, one_page}
-use Rattle.catalog_doc.specs.declared.row.Row.{Row}
+use Rattle.pkg_meta.specs.declared.commit.Staged.{Staged}
+use Rattle.pkg_meta.specs.declared.commit.Stored.{Stored}
+use Rattle.catalog_doc.specs.Catalogs.{IsCatalog}
+use Rattle.catalog_opening.specs.Openings.{IsSettledStoreOf, IsStoreOf}
+use Rattle.catalog_opening.specs.Settlings.{IsDamagedOrTooMany}
+use Rattle.catalog_rows.specs.Kept.{IsKeptOf, Kept}
 
--- an open catalog: its area, the feed's base address, and the rows of its items in order
+-- an open catalog: its area, the feed's base address, what it keeps of its catalog, and whether it is settled
 pub record Opened (B : Type 0) : Type 0 where
   pub area : B
   pub base : List ℕ
-  pub rows : List Row
+  pub kept : Kept
+  pub settled : Bool
 
--- the index and the first page that are held are those of this catalog
-abbrev pub Holds : Area → List ℕ → Catalog → Type 0
-Holds m base cs = (get m index_name ≡ doc_at base cs index_name) × (get m (page_name 0) ≡ doc_at base cs (page_name 0))
+-- it is kept of the catalog, or of the catalog without its last commit
+abbrev pub IsKeptOfMost : Kept → Catalog → Type 0
+IsKeptOfMost kept cs = IsKeptOf kept cs ⊎ ((before : Catalog) × (last : Stored) × (cs ≡ before ++ last ∷ []) × IsKeptOf kept before)
 
--- the area holds the index and the first page of a catalog of bare publishes, below some base address
-abbrev pub HoldsPlain : Area → Type 0
-HoldsPlain m = (base : List ℕ) × (cs : Catalog) × IsUtf8 base × IsPlain cs × Holds m base cs
+-- What is kept of the catalog: settled, all of it. After a call that stopped within its puts the last commit may be unknown.
+abbrev pub Keeps : Bool → Kept → Catalog → Type 0
+Keeps true kept cs = IsKeptOf kept cs
+Keeps false kept cs = IsKeptOfMost kept cs
 
--- a catalog of bare publishes that a store holds, where it tells its area
-abbrev pub IsFound : Option Area → List ℕ → Catalog → Type 0
-IsFound held base cs = IsUtf8 base × IsPlain cs × IfSome held (λ m. Holds m base cs)
+-- the store tells an area that spells the catalog; settled, its index doesn't lag
+abbrev pub IsStoreFor : Bool → Seen → List ℕ → Catalog → Type 0
+IsStoreFor true s base cs = IsSettledStoreOf s base cs
+IsStoreFor false s base cs = IsStoreOf s base cs
 
--- an open catalog's base address and rows are those of such a catalog
-abbrev pub IsOpened : Option Area → List ℕ → List Row → Type 0
-IsOpened held base rows = (cs : Catalog) × IsFound held base cs × (all_rows cs ≡ rows)
+-- the open catalog is open for this one, where this is told of its store
+pub record IsOpenFor {B : Type 0} (o : Opened B) (s : Seen) (cs : Catalog) : Type 0 where
+  pub lawful : IsCatalog cs
+  pub keeps : Keeps o.settled o.kept cs
+  pub store : IsStoreFor o.settled s o.base cs
 
--- the area's index and first page are those of these rows
-pub record HoldsRows (m : Area) (base : List ℕ) (rows : List Row) : Type 0 where
-  pub index : get m index_name ≡ Some (index_text base (one_head rows))
-  pub page : get m (page_name 0) ≡ one_page base rows
+-- it is settled, and open for this one
+pub record IsReady {B : Type 0} (o : Opened B) (s : Seen) (cs : Catalog) : Type 0 where
+  pub settled : o.settled ≡ true
+  pub open_for : IsOpenFor o s cs
+
+-- this blob is why it isn't settled: a page known, or the page behind them, isn't held as is known
+abbrev pub IsUnsettled : {B : Type 0} → Area → Opened B → List ℕ → Type 0
+IsUnsettled m o name = (o.settled ≡ false) × IsDamagedOrTooMany m o.base o.kept.pages name
+
+-- the manifest or the package that a publish brought
+abbrev pub staged_bytes : Bool → Staged → List ℕ
+staged_bytes nuspec brought = if nuspec then brought.nuspec else brought.nupkg

@@ -1,37 +1,38 @@
-// The catalog of a feed, open.
-ghost use Rattle.std.specs.Prelude.{◌≡◌, ◌≤◌, ◌⊎◌, [], ◌∷◌, ◌++◌, Some, None, length, IfOk, OnOk, IfErr, IfSome, IfNone, IsErrOf, IsSome, option_map};
+// The catalog of a feed, open, and what is read of it.
+ghost use Rattle.std.specs.Prelude.{◌≡◌, ◌⊎◌, None, Some, true, IfErr, IfOk, IfSome, IsErrOf, OnErr, OnOk, Option, length, slice_get, List};
 ghost use Rattle.std.specs.FinMap.{get};
-ghost use Rattle.feed_base.specs.Counts.{HasRisen};
-ghost use Rattle.blob_store.specs.Area.{Area, with_blob};
-ghost use Rattle.blob_store.specs.Moments.{LeavesOnly};
-ghost use Rattle.blob_store.specs.Runs.{after_calls, IsAfterSome};
-ghost use Rattle.catalog_doc.specs.CatDocs.{all_rows};
-ghost use Rattle.catalog_core.specs.Commits.{commit_puts, made};
-ghost use Rattle.catalog_doc.specs.Documents.{index_text};
-ghost use Rattle.catalog_doc.specs.Names.{index_name};
-ghost use Rattle.catalog_core.specs.Opened.{HoldsPlain, IsOpened};
-ghost use Rattle.catalog_core.specs.Verdicts.{ForCatalogsOf, IsRefusal, verdict};
+ghost use Rattle.std.specs.List.{Contains};
+ghost use Rattle.blob_store.specs.Area.{Area};
+ghost use Rattle.pkg_meta.specs.declared.commit.Staged.{Staged};
+ghost use Rattle.pkg_meta.specs.declared.commit.Stored.{Stored};
+ghost use Rattle.catalog_doc.specs.CatDocs.{all_rows, doc_at};
+ghost use Rattle.catalog_doc.specs.Catalogs.{IsCatalog};
+ghost use Rattle.catalog_doc.specs.Names.{staged_name};
+ghost use Rattle.catalog_opening.specs.Errors.{IfDamagedRead};
+ghost use Rattle.catalog_opening.specs.Settlings.{more_rows, with_more};
+ghost use Rattle.catalog_rows.specs.Kept.{IsKeptOf};
+ghost use Rattle.catalog_items.specs.ByRows.{rows_above};
+ghost use Rattle.catalog_items.specs.Reads.{IsAbsent, IsRead};
+ghost use Rattle.catalog_core.specs.Framing.{RunsSettling, StaysOpen};
+ghost use Rattle.catalog_core.specs.Opened.{IsOpenFor, IsUnsettled, staged_bytes};
 
-use crate::change::{Changes, Committed};
-use crate::committing::plan;
-use crate::documents::{bytes_at, document_at};
-use crate::error::{CommitErr, InitErr, OpenErr, ReadErr};
-use crate::heads::Rows;
-use crate::items::{commits_at, leaf_at};
-use crate::opening::{Known, look};
-use crate::prepared::Prepared;
-use blob_store::{Blobs, call_all};
-use catalog_doc::{INDEX_NAME, index_bytes, staged_name};
-use pkg_meta::{Bytes, Commit, Item, Many, Text, Ticks};
+use blob_store::Blobs;
+use catalog_doc::{Row, staged_name};
+use catalog_items::{bytes_at, document_at, page_count, rows_above};
+use catalog_opening::{ReadErr, settle};
+use catalog_rows::Rows;
+use pkg_meta::{Bytes, Many, Text};
 use std::alloc::Global;
 use std::marker::Model;
 
 /// An open catalog: the area that it stands in, and what is known of its commits.
 #[derive(Drop)]
 pub struct Catalog<B: Blobs> {
-    area: B,
-    base: Text,
-    rows: Rows,
+    pub(crate) area: B,
+    pub(crate) base: Text,
+    pub(crate) rows: Rows,
+    // Whether all that the area holds is known, and the index doesn't lag.
+    pub(crate) settled: bool,
 }
 
 impl<B: Blobs> Model for Catalog<B> {
@@ -39,77 +40,43 @@ impl<B: Blobs> Model for Catalog<B> {
 
     ghost Value = { Opened B };
 
-    ghost view = { λ c. record { area = c.area; base = c.base; rows = c.rows } };
+    ghost view = { λ c. record { area = c.area; base = c.base; kept = c.rows; settled = c.settled } };
 }
 
-// Puts the index of no commits, where there is none.
-fn put_first_index<B: Blobs>(alloc: Global, area: &mut B, base: &str) -> Result<(), InitErr>
-    ensures ok { OnOk result (IfSome (B.seen area.old).held (λ m. (get m index_name ≡ None) × ((B.seen area.new).held ≡ Some (with_blob index_name (index_text base.now []) m)))) }
-    ensures already { IsErrOf result InitErr.Already → IfSome (B.seen area.old).held (λ m. IsSome (get m index_name)) × ((B.seen area.new).held ≡ (B.seen area.old).held) }
-    ensures fault { IsErrOf result InitErr.Fault → HasRisen (B.seen area.old).faults (B.seen area.new).faults }
-    ensures left { IfErr result (λ e. IfSome (B.seen area.old).held (λ m. ((B.seen area.new).held ≡ Some m) ⊎ ((get m index_name ≡ None) × ((B.seen area.new).held ≡ Some (with_blob index_name (index_text base.now []) m))))) }
-    ensures later { (B.seen area.old).faults ≤ (B.seen area.new).faults }
+// How many rows a commit has at the most.
+const MOST_ROWS: usize = 64;
+
+// Takes in the rows of a commit that settling found, if there are any. It tells no more than a commit has.
+fn take_in(alloc: Global, rows: &mut Rows, more: Many<Row>) -> Result<(), ReadErr>
+    ensures took { (cs : List Stored) (last : Option Stored) → IsCatalog (with_more cs last) → IsKeptOf rows.old cs → more ≡ more_rows last
+        → OnOk result (IsKeptOf rows.new (with_more cs last)) }
+    ensures same { OnErr result (rows.new ≡ rows.old) }
+    ensures kind { IfErr result (λ e. e ≡ ReadErr.Memory) }
 {
-    let index = index_bytes(alloc, base, &[])?;
-    if area.get(alloc, INDEX_NAME)?.is_some() {
-        return Err(InitErr::Already);
+    if more.len() == 0 {
+        return Ok(());
     }
-    area.put(alloc, INDEX_NAME, index.as_slice())?;
-    Ok(())
-}
-
-/// Makes the catalog of no commits in an area, for a feed at this base address. Where a catalog is there
-/// already, nothing changes.
-pub fn init<B: Blobs>(alloc: Global, area: B, base: &str) -> Result<Catalog<B>, (InitErr, B)>
-    ensures ok { IfOk result (λ c. (c.base ≡ base.now) × (c.rows ≡ []) × IfSome (B.seen area).held (λ m. (get m index_name ≡ None) × ((B.seen c.area).held ≡ Some (with_blob index_name (index_text base.now []) m)))) }
-    ensures already { IfErr result (λ e. e.0 ≡ InitErr.Already → IfSome (B.seen area).held (λ m. IsSome (get m index_name)) × ((B.seen e.1).held ≡ (B.seen area).held)) }
-    ensures fault { IfErr result (λ e. e.0 ≡ InitErr.Fault → HasRisen (B.seen area).faults (B.seen e.1).faults) }
-    ensures left { IfErr result (λ e. IfSome (B.seen area).held (λ m. ((B.seen e.1).held ≡ Some m) ⊎ ((get m index_name ≡ None) × ((B.seen e.1).held ≡ Some (with_blob index_name (index_text base.now []) m))))) }
-    ensures later { IfOk result (λ c. (B.seen area).faults ≤ (B.seen c.area).faults) }
-{
-    let mut area = area;
-    let Ok(copy) = Text::copy_of(alloc, base) else {
-        return Err((InitErr::Memory, area));
-    };
-    match put_first_index(alloc, &mut area, base) {
-        Ok(()) => Ok(Catalog {
-            area,
-            base: copy,
-            rows: Rows::new(alloc),
-        }),
-        Err(error) => Err((error, area)),
+    if more.len() > MOST_ROWS {
+        return Err(ReadErr::Memory);
     }
-}
-
-/// Opens the catalog that an area holds, which has at most 512 commits of one bare publish each: of a version of three
-/// numbers, as it is printed. It gets the index and the first page, each once.
-pub fn open_catalog<B: Blobs>(alloc: Global, area: B) -> Result<Catalog<B>, (OpenErr, B)>
-    ensures ok { IfOk result (λ c. IsOpened (B.seen area).held c.base c.rows) }
-    ensures missing { IfErr result (λ e. e.0 ≡ OpenErr.Missing → IfSome (B.seen area).held (λ m. get m index_name ≡ None)) }
-    ensures unsupported { IfErr result (λ e. e.0 ≡ OpenErr.Unsupported → IfSome (B.seen area).held (λ m. IsSome (get m index_name) × (HoldsPlain m → ⊥))) }
-    ensures fault { IfErr result (λ e. e.0 ≡ OpenErr.Fault → HasRisen (B.seen area).faults (B.seen e.1).faults) }
-    ensures same { IfErr result (λ e. ((B.seen e.1).held ≡ (B.seen area).held) × ((B.seen area).faults ≤ (B.seen e.1).faults)) }
-    ensures kept { IfOk result (λ c. (B.seen c.area).held ≡ (B.seen area).held) }
-    ensures later { IfOk result (λ c. (B.seen area).faults ≤ (B.seen c.area).faults) }
-{
-    let mut area = area;
-    match look(alloc, &mut area) {
-        Ok(Known { base, rows }) => Ok(Catalog { area, base, rows }),
-        Err(error) => Err((error, area)),
+    match rows.add(alloc, more) {
+        Ok(()) => Ok(()),
+        Err(_) => Err(ReadErr::Memory),
     }
 }
 
 impl<B: Blobs> Catalog<B> {
-    ghost use Rattle.catalog_doc.specs.CatDocs.{doc_at};
-    ghost use Rattle.catalog_core.specs.Leaves.{AreCommitsAt, commits_of, HasNoLeaf, HaveValues, HoldsLeaf, HoldsLeaves, IsItemOf};
-    ghost use Rattle.catalog_doc.specs.Reading.{IsItemValue};
-    ghost use Rattle.catalog_doc.specs.Names.{leaf_name, staged_name};
-    ghost use Rattle.catalog_core.specs.Reads.{IfDamaged, IsRead};
-    ghost use Rattle.catalog_doc.specs.declared.row.Row.{Row};
-    ghost use Rattle.std.specs.List.{Contains};
-    ghost use Rattle.std.specs.Prelude.{slice_get};
-    ghost use Rattle.pkg_meta.specs.declared.commit.Stored.{Stored};
-    ghost use Rattle.pkg_meta.specs.declared.item.Item.{Item};
+    /// The catalog that is kept of an area.
+    pub(crate) fn of(area: B, base: Text, rows: Rows) -> Self
+        ensures { result ≡ (record { area = area; base = base; kept = rows; settled = true }) }
+    {
+        Catalog {
+            area,
+            base,
+            rows,
+            settled: true,
+        }
+    }
 
     pub fn base(&self) -> &str
         ensures { result.now ≡ self.now.base }
@@ -125,85 +92,60 @@ impl<B: Blobs> Catalog<B> {
         area
     }
 
-    /// The number of commits.
-    pub fn count(&self) -> u32
-        ensures { ForCatalogsOf self.now.rows (λ cs. result ≡ length cs) }
+    /// Takes over what a call that stopped left, and puts the index.
+    pub(crate) fn settle(&mut self, alloc: Global) -> Result<(), ReadErr>
+        ensures stays { StaysOpen self.old self.new (B.seen self.old.area) (B.seen self.new.area) (IsErrOf result ReadErr.Fault) }
+        ensures settled { OnOk result (self.new.settled ≡ true) }
+        ensures whole { (cs : List Stored) → IsOpenFor self.old (B.seen self.old.area) cs → IfDamagedRead result (λ name. ⊥) }
+        ensures damaged { (m : Area) → (B.seen self.old.area).held ≡ Some m → IfDamagedRead result (IsUnsettled m self.old) }
+        ensures runs { (cs : List Stored) → IsOpenFor self.old (B.seen self.old.area) cs
+            → RunsSettling self.old cs (B.seen self.old.area) (B.seen self.new.area) result }
     {
-        self.rows.len().min(u32::MAX as usize) as u32
+        if self.settled {
+            return Ok(());
+        }
+        let more = settle(alloc, &mut self.area, self.base.as_str(), self.rows.pages())?;
+        take_in(alloc, &mut self.rows, more)?;
+        self.settled = true;
+        Ok(())
+    }
+
+    /// The number of commits.
+    pub fn count(&mut self, alloc: Global) -> Result<u32, ReadErr>
+        ensures reads { (cs : List Stored) → IsOpenFor self.old (B.seen self.old.area) cs → IsRead (length cs) result }
+        ensures stays { StaysOpen self.old self.new (B.seen self.old.area) (B.seen self.new.area) (IsErrOf result ReadErr.Fault) }
+        ensures damaged { (m : Area) → (B.seen self.old.area).held ≡ Some m → IfDamagedRead result (IsUnsettled m self.old) }
+    {
+        self.settle(alloc)?;
+        Ok(self.rows.next_number().saturating_sub(1))
+    }
+
+    /// The rows of the commits above a number, in order.
+    pub fn items_after(&mut self, alloc: Global, cursor: u32) -> Result<Many<Row>, ReadErr>
+        ensures reads { (cs : List Stored) → IsOpenFor self.old (B.seen self.old.area) cs → IsRead (rows_above cursor (all_rows cs)) result }
+        ensures stays { StaysOpen self.old self.new (B.seen self.old.area) (B.seen self.new.area) (IsErrOf result ReadErr.Fault) }
+        ensures damaged { (m : Area) → (B.seen self.old.area).held ≡ Some m → IfDamagedRead result (IsUnsettled m self.old) }
+    {
+        self.settle(alloc)?;
+        let rows = rows_above(alloc, self.rows.as_slice(), cursor)?;
+        Ok(rows)
     }
 
     /// The bytes of the catalog's document of this name, or `None` where the catalog has no such document.
-    /// `Damaged` tells the name where the area doesn't hold it.
     pub fn doc(&mut self, alloc: Global, name: &str) -> Result<Option<Bytes>, ReadErr>
-        ensures none { IfOk result (λ found. IfNone found (ForCatalogsOf self.old.rows (λ cs. doc_at self.old.base cs name.now ≡ None))) }
-        ensures some { IfOk result (λ found. IfSome found (λ bytes. ForCatalogsOf self.old.rows (λ cs. IsSome (doc_at self.old.base cs name.now))
-            × IfSome (B.seen self.old.area).held (λ m. get m name.now ≡ Some bytes))) }
-        ensures damaged { IfErr result (λ e. IfDamaged e (λ n. (n ≡ name.now) × ForCatalogsOf self.old.rows (λ cs. IsSome (doc_at self.old.base cs name.now))
-            × IfSome (B.seen self.old.area).held (λ m. get m name.now ≡ None))) }
-
-        // Where the area holds what the catalog has there, that is the answer.
-        ensures exact { ForCatalogsOf self.old.rows (λ cs. IfSome (B.seen self.old.area).held (λ m. get m name.now ≡ doc_at self.old.base cs name.now
-            → IsRead (doc_at self.old.base cs name.now) result)) }
-        ensures absent { ForCatalogsOf self.old.rows (λ cs. doc_at self.old.base cs name.now ≡ None → IsRead None result) }
-
-        ensures fault { IsErrOf result ReadErr.Fault → HasRisen (B.seen self.old.area).faults (B.seen self.new.area).faults }
-        ensures same { ((B.seen self.new.area).held ≡ (B.seen self.old.area).held) × (self.new.base ≡ self.old.base) × (self.new.rows ≡ self.old.rows) }
-        ensures later { (B.seen self.old.area).faults ≤ (B.seen self.new.area).faults }
+        ensures reads { (cs : List Stored) → IsOpenFor self.old (B.seen self.old.area) cs → IsRead (doc_at self.old.base cs name.now) result }
+        ensures stays { StaysOpen self.old self.new (B.seen self.old.area) (B.seen self.new.area) (IsErrOf result ReadErr.Fault) }
+        ensures held { (now : Area) → (B.seen self.new.area).held ≡ Some now → IfOk result (λ found. IfSome found (λ bytes. get now name.now ≡ Some bytes)) }
+        ensures damaged { (m now : Area) → (B.seen self.old.area).held ≡ Some m → (B.seen self.new.area).held ≡ Some now
+            → IfDamagedRead result (λ n. IsUnsettled m self.old n ⊎ IsAbsent name.now now n) }
     {
-        document_at(alloc, &mut self.area, self.rows.as_slice(), name)
-    }
-
-    /// The item at a place of a commit, read from its leaf. `Damaged` tells the leaf's name where the catalog has no
-    /// such place, or the area doesn't hold the leaf, or not one of the item that the catalog has there.
-    pub fn leaf(&mut self, alloc: Global, number: u32, place: u32) -> Result<Item, ReadErr>
-        ensures found { IfOk result (λ it. (row : Row) × Contains self.old.rows row × (row.number ≡ number) × (row.place ≡ place) × IsItemOf row it
-            × IfSome (B.seen self.old.area).held (λ m. HoldsLeaf m self.old.base row it)) }
-
-        // Where the area holds the leaf of the catalog's item, which is details, that is the answer.
-        ensures exact { ForCatalogsOf self.old.rows (λ cs. (c : Stored) (it : Item) → Contains cs c → c.commit.number ≡ number → slice_get c.commit.items place ≡ Some it
-            → IsItemValue it → IfSome (B.seen self.old.area).held (λ m. get m (leaf_name number place) ≡ doc_at self.old.base cs (leaf_name number place)
-            → IsRead it result)) }
-
-        ensures damaged { IfErr result (λ e. IfDamaged e (λ n. n ≡ leaf_name number place)) }
-        ensures fault { IsErrOf result ReadErr.Fault → HasRisen (B.seen self.old.area).faults (B.seen self.new.area).faults }
-        ensures same { ((B.seen self.new.area).held ≡ (B.seen self.old.area).held) × (self.new.base ≡ self.old.base) × (self.new.rows ≡ self.old.rows) }
-        ensures later { (B.seen self.old.area).faults ≤ (B.seen self.new.area).faults }
-    {
-        leaf_at(
-            alloc,
-            &mut self.area,
-            self.base.as_str(),
-            self.rows.as_slice(),
-            number,
-            place,
-        )
-    }
-
-    /// All commits, from the first on, each read from its leaf. `Damaged` tells the name of a leaf that the area
-    /// doesn't hold, or that isn't one of the item that the catalog has there.
-    pub fn commits(&mut self, alloc: Global) -> Result<Many<Commit>, ReadErr>
-        ensures found { IfOk result (λ commits. IfSome (B.seen self.old.area).held (λ m. AreCommitsAt m self.old.base self.old.rows commits)) }
-
-        // Where the area holds the leaves of the catalog, whose items are details, its commits are the answer.
-        ensures exact { ForCatalogsOf self.old.rows (λ cs. HaveValues (commits_of cs) → IfSome (B.seen self.old.area).held (λ m. HoldsLeaves m self.old.base cs
-            → IsRead (commits_of cs) result)) }
-
-        ensures damaged { IfErr result (λ e. IfDamaged e (λ n. (row : Row) × Contains self.old.rows row × (n ≡ leaf_name row.number row.place)
-            × IfSome (B.seen self.old.area).held (λ m. HasNoLeaf m self.old.base row))) }
-        ensures fault { IsErrOf result ReadErr.Fault → HasRisen (B.seen self.old.area).faults (B.seen self.new.area).faults }
-        ensures same { ((B.seen self.new.area).held ≡ (B.seen self.old.area).held) × (self.new.base ≡ self.old.base) × (self.new.rows ≡ self.old.rows) }
-        ensures later { (B.seen self.old.area).faults ≤ (B.seen self.new.area).faults }
-    {
-        commits_at(
-            alloc,
-            &mut self.area,
-            self.base.as_str(),
-            self.rows.as_slice(),
-        )
+        self.settle(alloc)?;
+        let pages = page_count(self.rows.pages());
+        document_at(alloc, &mut self.area, self.rows.as_slice(), pages, name)
     }
 
     /// The bytes of the package that the publish at a place brought, or of its manifest; at a place of no publish those of
-    /// the blob of that name. `Damaged` tells the name where the area doesn't hold it.
+    /// the blob of that name.
     pub fn staged(
         &mut self,
         alloc: Global,
@@ -211,56 +153,15 @@ impl<B: Blobs> Catalog<B> {
         place: u32,
         nuspec: bool,
     ) -> Result<Bytes, ReadErr>
-        ensures found { IfOk result (λ bytes. IfSome (B.seen self.old.area).held (λ m. get m (staged_name number place nuspec) ≡ Some bytes)) }
-        ensures damaged { IfErr result (λ e. IfDamaged e (λ n. (n ≡ staged_name number place nuspec)
-            × IfSome (B.seen self.old.area).held (λ m. get m (staged_name number place nuspec) ≡ None))) }
-        ensures fault { IsErrOf result ReadErr.Fault → HasRisen (B.seen self.old.area).faults (B.seen self.new.area).faults }
-        ensures same { ((B.seen self.new.area).held ≡ (B.seen self.old.area).held) × (self.new.base ≡ self.old.base) × (self.new.rows ≡ self.old.rows) }
-        ensures later { (B.seen self.old.area).faults ≤ (B.seen self.new.area).faults }
+        ensures reads { (cs : List Stored) (c : Stored) (brought : Staged) → IsOpenFor self.old (B.seen self.old.area) cs → Contains cs c
+            → c.commit.number ≡ number → slice_get c.staged place ≡ Some (Some brought) → IsRead (staged_bytes nuspec brought) result }
+        ensures stays { StaysOpen self.old self.new (B.seen self.old.area) (B.seen self.new.area) (IsErrOf result ReadErr.Fault) }
+        ensures held { (now : Area) → (B.seen self.new.area).held ≡ Some now → IfOk result (λ bytes. get now (staged_name number place nuspec) ≡ Some bytes) }
+        ensures damaged { (m now : Area) → (B.seen self.old.area).held ≡ Some m → (B.seen self.new.area).held ≡ Some now
+            → IfDamagedRead result (λ n. IsUnsettled m self.old n ⊎ IsAbsent (staged_name number place nuspec) now n) }
     {
+        self.settle(alloc)?;
         let name = staged_name(alloc, number, place, nuspec)?;
         bytes_at(alloc, &mut self.area, &name)
-    }
-
-    /// Commits one publish. It takes its own memory before its first put. `Memory` may come before the
-    /// commit is refused or begun. After a fault or out of memory the commit is there whole or in part,
-    /// and the catalog is opened again.
-    pub fn commit(
-        &mut self,
-        alloc: Global,
-        changes: &Changes,
-        now: Ticks,
-    ) -> Result<Committed, CommitErr>
-        requires one { length changes.now ≡ 1 }
-        ensures taken { IfOk result (λ done. ForCatalogsOf self.old.rows (λ cs. verdict cs changes.now now ≡ Ok (made cs changes.now now))) }
-        ensures ok { IfOk result (λ done. ForCatalogsOf self.old.rows (λ cs. let c = made cs changes.now now in
-            (done.number ≡ c.commit.number) × (done.stamp ≡ c.commit.stamp) × (self.new.rows ≡ all_rows (cs ++ c ∷ []))
-            × ((B.seen self.new.area).held ≡ option_map (after_calls (commit_puts self.old.base cs c)) (B.seen self.old.area).held))) }
-
-        // The refusals, each exactly where it is the verdict, but for lack of memory.
-        ensures refused { IfErr result (λ e. IsRefusal e → ForCatalogsOf self.old.rows (λ cs. verdict cs changes.now now ≡ Err e)) }
-        ensures untouched { IfErr result (λ e. IsRefusal e → self.new ≡ self.old) }
-        ensures exactly { ForCatalogsOf self.old.rows (λ cs. IfErr (verdict cs changes.now now) (λ e. ((result ≡ Err e) ⊎ IsErrOf result CommitErr.Memory) × (self.new ≡ self.old))) }
-
-        ensures fault { IsErrOf result CommitErr.Fault → HasRisen (B.seen self.old.area).faults (B.seen self.new.area).faults }
-        ensures begun { IsErrOf result CommitErr.Fault → ForCatalogsOf self.old.rows (λ cs. verdict cs changes.now now ≡ Ok (made cs changes.now now)) }
-
-        // Whatever it answers, a prefix of the puts is held, and a crash at each moment leaves a prefix of them.
-        ensures front { ForCatalogsOf self.old.rows (λ cs. IfSome (B.seen self.old.area).held (λ m. (left : Area) × ((B.seen self.new.area).held ≡ Some left)
-            × IsAfterSome (commit_puts self.old.base cs (made cs changes.now now)) m left)) }
-        ensures moments { ForCatalogsOf self.old.rows (λ cs. IfSome (B.seen self.old.area).held (λ m. LeavesOnly (B.seen self.old.area) (B.seen self.new.area)
-            (IsAfterSome (commit_puts self.old.base cs (made cs changes.now now)) m))) }
-
-        ensures base { self.new.base ≡ self.old.base }
-        ensures later { (B.seen self.old.area).faults ≤ (B.seen self.new.area).faults }
-    {
-        let planned = plan(alloc, self.base.as_str(), &self.rows, changes, now)?;
-        let Prepared { calls, row } = planned.prepared;
-        self.rows.push(alloc, row)?;
-        call_all(alloc, &mut self.area, calls.as_slice())?;
-        Ok(Committed {
-            number: planned.number,
-            stamp: planned.stamp,
-        })
     }
 }

@@ -1,5 +1,5 @@
 -- Blobs that aren't held.
-use Rattle.std.proofs.Common.{◌≡◌, ℕ, List, [], ◌∷◌, Ok, Err, Result}
+use Rattle.std.proofs.Common.{ℕ, List, Ok, Err, Result}
 use Rattle.catalog_opening.specs.Errors.{IfDamagedError, IfDamagedRead}
 use Rattle.catalog_opening.specs.declared.error.ReadErr.{ReadErr}
 use Rattle.catalog_opening.specs.declared.error.ReadErr.TheVariants.{Damaged, Fault, Memory}

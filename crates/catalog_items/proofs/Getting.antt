@@ -1,8 +1,8 @@
 -- What gets leave of a store, one behind the other.
-use Rattle.std.proofs.Common.{◌≡◌, ◌<◌, ◌≤◌, ℕ, List, [], ◌∷◌, Option, None, Some, Ok, Err, Result, inr, ⊎_elim, refl, sym, ◌∙◌, ap, subst, arith}
+use Rattle.std.proofs.Common.{◌≡◌, ◌<◌, ◌≤◌, ℕ, List, Some, Ok, Err, Result, inr, ⊎_elim, refl, sym, ◌∙◌, ap, subst, arith}
 use Rattle.std.specs.Prelude.{IsErrOf}
 use Rattle.std.proofs.lemmas.Bool.{cases_lt}
-use Rattle.feed_base.specs.Counts.{CountsFault, most}
+use Rattle.feed_base.specs.Counts.{CountsFault}
 use Rattle.blob_store.specs.Area.{Area}
 use Rattle.blob_store.specs.Events.{Act}
 use Rattle.blob_store.specs.Moments.{LeavesOnly}

@@ -1,6 +1,6 @@
 -- The rows of a catalog's items.
-use Rattle.std.proofs.Common.{◌≡◌, ◌≢◌, ◌<◌, ◌+◌, ℕ, zero, suc, List, [], ◌∷◌, ◌++◌, length, Bool, true, false, Option, Some, refl, sym, ◌∙◌, ap, ap₂, subst, length-append, arith}
-use Rattle.std.specs.Prelude.{◌&&◌, Contains, nat_eq, slice_get, if◌then◌else◌}
+use Rattle.std.proofs.Common.{◌≡◌, ◌≢◌, ◌<◌, ◌+◌, ℕ, zero, suc, List, [], ◌∷◌, ◌++◌, length, Bool, true, false, Some, refl, sym, ◌∙◌, ap, ap₂, subst, length-append, arith}
+use Rattle.std.specs.Prelude.{◌&&◌, Contains, nat_eq, slice_get}
 use Rattle.pkg_meta.specs.Catalog.{Catalog}
 use Rattle.pkg_meta.specs.Items.{id_of, version_of, is_gone}
 use Rattle.pkg_meta.specs.Lawful.{MayFollow}

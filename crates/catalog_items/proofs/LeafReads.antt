@@ -1,5 +1,5 @@
 -- Leaves that are read row by row, and the commits of their items.
-use Rattle.std.proofs.Common.{◌≡◌, ◌≢◌, ◌<◌, ◌+◌, ℕ, zero, suc, List, [], ◌∷◌, ◌++◌, length, get_or, slice_set, Bool, true, false, Option, Some, None, Ok, Err, Result, refl, sym, ◌∙◌, ap, ap₂, subst, arith}
+use Rattle.std.proofs.Common.{◌≡◌, ◌≢◌, ◌+◌, ℕ, zero, suc, List, [], ◌∷◌, ◌++◌, length, get_or, slice_set, Bool, true, false, Some, None, Ok, Err, Result, refl, sym, ◌∙◌, ap, ap₂, subst, arith}
 use Rattle.std.specs.Prelude.{◌&&◌, OnOk, nat_eq, if◌then◌else◌}
 use Rattle.std.specs.FinMap.{get}
 use Rattle.std.proofs.lemmas.Bool.Decides.{nat_tests}
@@ -9,7 +9,7 @@ use Rattle.pkg_meta.specs.declared.item.Item.{Item}
 use Rattle.catalog_doc.specs.Names.{leaf_name}
 use Rattle.catalog_doc.specs.Reading.{IsItemValue}
 use Rattle.catalog_doc.specs.declared.row.Row.{Row}
-use Rattle.catalog_opening.specs.Errors.{IfDamagedBy, IfDamagedRead}
+use Rattle.catalog_opening.specs.Errors.{IfDamagedBy}
 use Rattle.catalog_opening.specs.declared.error.ReadErr.{ReadErr}
 use Rattle.catalog_opening.specs.declared.error.ReadErr.TheVariants.{Damaged, Fault, Memory}
 use Rattle.catalog_items.specs.Leaves.{AreItemValues, commit_of_one, commits_with, HasNoLeaf, HoldsLeaf, HoldsLeaves, is_at, row_with, with_item}

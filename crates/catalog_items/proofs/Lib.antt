@@ -3,4 +3,4 @@ pub mod DocsByRows
 pub mod Getting
 pub mod Held
 pub mod ItemRows
-mod LeafReads
+pub mod LeafReads

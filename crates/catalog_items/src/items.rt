@@ -80,11 +80,13 @@ pub fn leaf_at<B: Blobs>(
     place: u32,
 ) -> Result<Item, ReadErr>
     ensures runs { RunsReading (leaf_gets (row_with number place rows.now)) (B.seen area.old) (B.seen area.new) result }
-    ensures ok { (m : Area) → (B.seen area.old).held ≡ Some m → IfOk result (λ it. IfSome (row_with number place rows.now) (λ row. HoldsLeaf m base.now row it)) }
+    ensures ok { (m : Area) → (B.seen area.old).held ≡ Some m
+        → IfOk result (λ it. IfSome (row_with number place rows.now) (λ row. HoldsLeaf m base.now row it)) }
     ensures exact { (m : Area) (row : Row) (it : Item) → (B.seen area.old).held ≡ Some m → row_with number place rows.now ≡ Some row
         → IsItemValue it → HoldsLeaf m base.now row it → IsRead it result }
     ensures absent { row_with number place rows.now ≡ None → IfOk result (λ it. ⊥) }
-    ensures damaged { (m : Area) → (B.seen area.old).held ≡ Some m → IfDamagedRead result (λ n. (n ≡ leaf_name number place) × IfSome (row_with number place rows.now) (HasNoLeaf m base.now)) }
+    ensures damaged { (m : Area) → (B.seen area.old).held ≡ Some m
+        → IfDamagedRead result (λ n. (n ≡ leaf_name number place) × IfSome (row_with number place rows.now) (HasNoLeaf m base.now)) }
 {
     match row_with(rows, number, place) {
         Some(row) => item_at(alloc, area, base, row),
@@ -121,7 +123,8 @@ pub fn commits_at<B: Blobs>(
     ensures ok { (m : Area) → (B.seen area.old).held ≡ Some m → IfOk result (AreCommitsAt m base.now rows.now) }
     ensures exact { (m : Area) (items : List Item) → (B.seen area.old).held ≡ Some m → AreItemValues items → HoldsLeaves m base.now rows.now items
         → IsRead (commits_with [] rows.now items) result }
-    ensures damaged { (m : Area) → (B.seen area.old).held ≡ Some m → IfDamagedRead result (λ n. (row : Row) × Contains rows.now row × IsNoLeafOf m base.now row n) }
+    ensures damaged { (m : Area) → (B.seen area.old).held ≡ Some m
+        → IfDamagedRead result (λ n. (row : Row) × Contains rows.now row × IsNoLeafOf m base.now row n) }
 {
     let mut commits = Vec::new(alloc);
     for row in rows {

@@ -1,5 +1,5 @@
 -- What is known of last items, and why changes are refused.
-use Rattle.std.proofs.Common.{◌≡◌, ◌<◌, ℕ, suc, length, take, get_or, List, [], ◌∷◌, ◌++◌, Option, Some, None, Ok, Err, Result, refl, sym, ◌∙◌, ap, subst}
+use Rattle.std.proofs.Common.{◌≡◌, ◌<◌, ℕ, length, take, get_or, List, [], ◌∷◌, ◌++◌, Option, Some, None, Ok, Err, Result, refl, sym, ◌∙◌, ap, subst}
 use Rattle.nuget_version.specs.Printed.{key_text}
 use Rattle.nuget_version.specs.declared.version.Version.{Version}
 use Rattle.package_id.specs.declared.id.PackageId.{PackageId}
@@ -10,19 +10,19 @@ use Rattle.pkg_meta.specs.declared.item.Details.{Details}
 use Rattle.pkg_meta.specs.declared.item.Item.{Item}
 use Rattle.pkg_meta.specs.declared.item.Item.TheVariants as the
 use Rattle.catalog_doc.specs.Commits.{last_changed, live_details}
-use Rattle.catalog_doc.specs.Verdict.{absent, first_reason, last_number_of, unfit}
+use Rattle.catalog_doc.specs.Verdict.{absent, last_number_of, unfit}
 use Rattle.catalog_doc.specs.declared.change.Change.{Change}
 use Rattle.catalog_doc.specs.declared.change.Change.TheVariants.{Publish, Unlist, Relist, Delete}
 use Rattle.catalog_doc.specs.declared.error.CommitErr.{CommitErr}
 use Rattle.catalog_doc.specs.declared.error.CommitErr.TheVariants as commit
 use Rattle.catalog_laws.proofs.Items.{there}
-use Rattle.catalog_opening.specs.Errors.{IfDamagedBy, IfDamagedRead}
+use Rattle.catalog_opening.specs.Errors.{IfDamagedBy}
 use Rattle.catalog_opening.specs.declared.error.ReadErr.{ReadErr}
 use Rattle.catalog_opening.specs.declared.error.ReadErr.TheVariants as read
 use Rattle.catalog_rows.specs.Reasons.{IsOfRows}
 use Rattle.catalog_opening.proofs.Halting.{AreGets, gets_keep}
 use Rattle.catalog_rows.specs.Kept.{Kept}
-use Rattle.catalog_rows.proofs.Places.{both_none, found_here, Seeks}
+use Rattle.catalog_rows.proofs.Places.{found_here, Seeks}
 use Rattle.blob_store.specs.Events.{Act}
 use Rattle.blob_store.specs.Plans.{Makes}
 use Rattle.blob_store.specs.Seen.{Seen}
@@ -41,13 +41,6 @@ fit_is_live cs place earlier (Publish meta nuspec nupkg) e = tt
 fit_is_live cs place earlier (Unlist i v) e = present place (last_number_of (last_changed cs (Unlist i v))) (last_changed cs (Unlist i v)) e
 fit_is_live cs place earlier (Relist i v) e = present place (last_number_of (last_changed cs (Relist i v))) (last_changed cs (Relist i v)) e
 fit_is_live cs place earlier (Delete i v) e = present place (last_number_of (last_changed cs (Delete i v))) (last_changed cs (Delete i v)) e
-
--- the first of changes that fit is such, and those behind it fit
-pub fit_parts : (cs : Catalog) (earlier : List Change) (place : ℕ) (change : Change) (changes : List Change) → first_reason (unfit cs) earlier place (change ∷ changes) ≡ None
-    → IsLive cs change × (first_reason (unfit cs) (earlier ++ change ∷ []) (suc place) changes ≡ None)
-fit_parts cs earlier place change changes e =
-    let parts = both_none (unfit cs place earlier change) (first_reason (unfit cs) (earlier ++ change ∷ []) (suc place) changes) e in
-    (fit_is_live cs place earlier change parts.0, parts.1)
 
 -- the listing that was read
 listing_is : (last : Option Placed) (x : Placed) (d : Details) → last ≡ Some x → x.what ≡ the.Details d → IsListingOf last (listing_in x.number x.what)
@@ -115,64 +108,11 @@ already_for place reason commit.Fault kind is = absurd kind
 already_for place reason (commit.Damaged name) kind is = absurd kind
 already_for place reason commit.Memory kind is = absurd kind
 
--- the first reason of one that is behind another
-pub reason_for : (first second : Option CommitErr) (error : CommitErr) → first ≡ second → IsRefusalFor first error → IsRefusalFor second error
-reason_for first second error same = subst (λ (reason : Option CommitErr). IsRefusalFor reason error) same
-
 -- what is told of a damaged blob
 pub damage_for : (P : List ℕ → Type 0) (error : ReadErr) → IfDamagedBy error P → IfDamagedRefusal (commit_err_for error) P
 damage_for P (read.Damaged name) holds = holds
 damage_for P read.Fault holds = tt
 damage_for P read.Memory holds = tt
-
-pub no_damage : (P : List ℕ → Type 0) (place : ℕ) (error : CommitErr) → IsAlreadyAt place error → IfDamagedRefusal error P
-no_damage P place (commit.Already at number) kind = tt
-no_damage P place commit.Empty kind = absurd kind
-no_damage P place (commit.TooMany n) kind = absurd kind
-no_damage P place (commit.Twice n) kind = absurd kind
-no_damage P place (commit.Exists p n) kind = absurd kind
-no_damage P place (commit.Absent p n) kind = absurd kind
-no_damage P place (commit.IdFull p) kind = absurd kind
-no_damage P place (commit.Full n) kind = absurd kind
-no_damage P place commit.Unsupported kind = absurd kind
-no_damage P place commit.ClockEnd kind = absurd kind
-no_damage P place commit.Fault kind = absurd kind
-no_damage P place (commit.Damaged name) kind = absurd kind
-no_damage P place commit.Memory kind = absurd kind
-
-pub rows_whole : (P : List ℕ → Type 0) (error : CommitErr) → IsOfRows error → IfDamagedRefusal error P
-rows_whole P commit.Empty kind = tt
-rows_whole P (commit.TooMany n) kind = tt
-rows_whole P (commit.Twice n) kind = tt
-rows_whole P (commit.Exists p n) kind = tt
-rows_whole P (commit.Absent p n) kind = tt
-rows_whole P (commit.IdFull p) kind = tt
-rows_whole P (commit.Full n) kind = tt
-rows_whole P commit.ClockEnd kind = tt
-rows_whole P (commit.Already at number) kind = absurd kind
-rows_whole P commit.Unsupported kind = absurd kind
-rows_whole P commit.Fault kind = absurd kind
-rows_whole P (commit.Damaged name) kind = absurd kind
-rows_whole P commit.Memory kind = absurd kind
-
-pub no_fault : (error : CommitErr) → IsOfRows error → error ≡ commit.Fault → ⊥
-no_fault error kind is = subst IsOfRows is kind
-
--- what a read told is for any reason, where nothing is damaged
-pub read_for : {A : Type 0} (P : A → Type 0) (reason : Option CommitErr) (error : ReadErr) → IsReadWith P (Err error) → IsRefusalFor reason (commit_err_for error)
-read_for P reason (read.Damaged name) whole = absurd whole
-read_for P reason read.Fault whole = tt
-read_for P reason read.Memory whole = tt
-
-pub fault_for : (error : ReadErr) → commit_err_for error ≡ commit.Fault → error ≡ read.Fault
-fault_for (read.Damaged name) is = absurd (let no : ⊥ = cc in no)
-fault_for read.Fault is = refl
-fault_for read.Memory is = absurd (let no : ⊥ = cc in no)
-
-pub whole_for : (A : Type 0) (reason : Option CommitErr) (error : ReadErr) → IfDamagedRead {A = A} (Err error) (λ name. ⊥) → IsRefusalFor reason (commit_err_for error)
-whole_for A reason (read.Damaged name) whole = absurd whole
-whole_for A reason read.Fault whole = tt
-whole_for A reason read.Memory whole = tt
 
 -- the same of each kind of change
 module _ (cs : Catalog) (i : PackageId) (v : Version) (change : Change) where

@@ -24,7 +24,6 @@ use Rattle.catalog_items.specs.Framing.{OnlyGets}
 use Rattle.catalog_items.specs.Leaves.{leaf_gets}
 use Rattle.catalog_items.proofs.Getting.{gets_as, made_gets, only_gets}
 use Rattle.commit_plan.specs.Lookups.{commit_err_for, gets_for, HaltsAtOne, HaltsLooking, listing_gets, RunsLooking}
-use Rattle.commit_plan.specs.Plans.{IsAlreadyAt}
 
 gets_append : (p q : List Act) → AreGets p → AreGets q → AreGets (p ++ q)
 gets_append [] q first second = second
@@ -44,28 +43,6 @@ gets_for-gets rows (Delete i v) = tt
 pub listing_gets-gets : (rows : List Row) (changes : List Change) → AreGets (listing_gets rows changes)
 listing_gets-gets rows [] = tt
 listing_gets-gets rows (change ∷ changes) = gets_append (gets_for rows change) (listing_gets rows changes) (gets_for-gets rows change) (listing_gets-gets rows changes)
-
--- a read that told an error, told by a commit
-pub halts_one : (place : ℕ) (gets : List Act) (a b : Seen) (error : ReadErr) → HaltsAt gets error a b → HaltsAtOne place gets (commit_err_for error) a b
-halts_one place gets a b (read.Damaged name) halts = halts
-halts_one place gets a b read.Fault halts = halts
-halts_one place gets a b read.Memory halts = halts
-
--- behind its gets a version has the listing that is wanted
-pub already_one : (place : ℕ) (gets : List Act) (a b : Seen) (error : CommitErr) → IsAlreadyAt place error → Makes gets a b → HaltsAtOne place gets error a b
-already_one place gets a b (commit.Already at number) is made = (is, made)
-already_one place gets a b commit.Empty is made = absurd is
-already_one place gets a b (commit.TooMany n) is made = absurd is
-already_one place gets a b (commit.Twice n) is made = absurd is
-already_one place gets a b (commit.Exists p n) is made = absurd is
-already_one place gets a b (commit.Absent p n) is made = absurd is
-already_one place gets a b (commit.IdFull p) is made = absurd is
-already_one place gets a b (commit.Full n) is made = absurd is
-already_one place gets a b commit.Unsupported is made = absurd is
-already_one place gets a b commit.ClockEnd is made = absurd is
-already_one place gets a b commit.Fault is made = absurd is
-already_one place gets a b (commit.Damaged name) is made = absurd is
-already_one place gets a b commit.Memory is made = absurd is
 
 module _ (rows : List Row) (changes : List Change) (i : ℕ) (change : Change) (within : i < length changes) (is : change ≡ get_or changes i change) (a b c : Seen)
     (first : Makes (listing_gets rows (take i changes)) a b) where

@@ -93,14 +93,17 @@ abbrev pub LooksAtOne : {A : Type 0} → ℕ → List Act → Seen → Seen → 
 LooksAtOne place gets old new (Ok a) = Makes gets old new
 LooksAtOne place gets old new (Err error) = HaltsAtOne place gets error old new
 
--- The same of changes, from the first place on: the last place looked at is that of the version that has the listing
--- that is wanted. For another refusal no call was made.
+-- The gets before a refusal: those up to the place of a version that has the listing that is wanted, and none for another.
+abbrev pub refused_gets : List Row → List Change → CommitErr → List Act
+refused_gets rows changes (Already place number) = listing_gets rows (take (suc place) changes)
+refused_gets rows changes error = []
+
+-- what changes that were refused with this error made of the gets that they need
 abbrev pub HaltsLooking : List Row → List Change → CommitErr → Seen → Seen → Type 0
-HaltsLooking rows changes (Already place number) old new = Makes (listing_gets rows (take (suc place) changes)) old new
 HaltsLooking rows changes Fault old new = StopsAt (listing_gets rows changes) blob.Failed old new
 HaltsLooking rows changes (Damaged name) old new = MakesSome (listing_gets rows changes) old new
 HaltsLooking rows changes Memory old new = StopsAt (listing_gets rows changes) blob.Memory old new ⊎ MakesSome (listing_gets rows changes) old new
-HaltsLooking rows changes error old new = Makes [] old new
+HaltsLooking rows changes error old new = Makes (refused_gets rows changes error) old new
 
 -- the gets of changes were made as the result tells
 abbrev pub RunsLooking : {A : Type 0} → List Row → List Change → Seen → Seen → Result A CommitErr → Type 0

@@ -13,7 +13,8 @@ ghost use Rattle.catalog_rows.specs.Kept.{IsKeptOf};
 ghost use Rattle.catalog_rows.specs.Last.{last_row};
 ghost use Rattle.catalog_items.specs.Leaves.{leaf_gets};
 ghost use Rattle.catalog_items.specs.Reads.{IsRead, IsReadWith};
-ghost use Rattle.commit_plan.specs.Lookups.{commit_err_for, gets_for, IfDamagedCommit, IsKnown, IsLastDamaged, IsLive, listing_in, LooksAtOne, RefusesFor, RunsLooking};
+ghost use Rattle.commit_plan.specs.Lookups.{commit_err_for, gets_for, IfDamagedCommit, IsKnown, IsLastDamaged};
+ghost use Rattle.commit_plan.specs.Lookups.{IsLive, listing_in, LooksAtOne, RefusesFor, RunsLooking};
 ghost use Rattle.commit_plan.specs.Plans.{AreKnownFor, IsKnownFor};
 
 use crate::last::LastItem;

@@ -3,7 +3,7 @@ use pkg_meta::{Details, PackageId, Version};
 
 /// What a change needs of its version's last item.
 #[derive(Drop)]
-pub enum LastItem {
+pub(crate) enum LastItem {
     /// Nothing: of a publish.
     Unneeded,
     /// The number of its commit and its details: of a change of listing.

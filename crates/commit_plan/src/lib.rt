@@ -15,6 +15,4 @@ mod plan;
 pub use committing::plan_changes;
 pub use hash::package_hash;
 pub use known::commit_err_for;
-pub use last::LastItem;
-pub use listing::already_at;
-pub use plan::{CommitPlan, plan_commit};
+pub use plan::CommitPlan;

@@ -22,7 +22,7 @@ fn has_listing(place: u32, wanted: bool, last: &LastItem) -> Option<CommitErr>
 }
 
 /// Why the change at a place is refused whose version has the listing that it wants, by the version's last item.
-pub fn already_at(place: u32, change: &Change, last: &LastItem) -> Option<CommitErr>
+pub(crate) fn already_at(place: u32, change: &Change, last: &LastItem) -> Option<CommitErr>
     ensures kind { IfSome result (IsAlreadyAt place) }
     ensures exact { (cs : Catalog) (earlier : List Change) → IsKnownFor cs change.now last.now → result ≡ already cs place earlier change.now }
 {

@@ -154,7 +154,8 @@ pub(crate) fn places_of(
     requires few { length changes.now < 2 ^ 32 }
     requires lasts { length lasts.now ≡ length changes.now }
     ensures rows { IfOk result (λ p. p.rows ≡ rows_from number stamp 0 (made_with number stamp 0 lasts.now changes.now)) }
-    ensures calls { IfOk result (λ p. p.calls ≡ place_puts base.now number stamp 0 (made_with number stamp 0 lasts.now changes.now) (map staged_of changes.now)) }
+    ensures calls { IfOk result (λ p. p.calls
+        ≡ place_puts base.now number stamp 0 (made_with number stamp 0 lasts.now changes.now) (map staged_of changes.now)) }
 {
     let mut rows = Many::new(alloc);
     let mut calls = Many::new(alloc);

@@ -24,7 +24,7 @@ pub struct CommitPlan {
 
 /// Plans the commit of these changes onto a catalog, of which it is told the last page's rows, what the index says of
 /// each page, and the last item of each change's version. It takes all the memory that the puts need but the store's own.
-pub fn plan_commit(
+pub(crate) fn plan_commit(
     alloc: Global,
     base: &str,
     last_page: &[Row],
@@ -40,10 +40,10 @@ pub fn plan_commit(
     ensures number { IfOk result (λ p. p.number ≡ number) }
     ensures stamp { IfOk result (λ p. p.stamp ≡ stamp) }
     ensures count { IfOk result (λ p. length p.rows ≡ length changes.now) }
-    ensures rows { IfOk result (λ p. (cs : Catalog) (now : ℕ) → IsKnownOf cs changes.now last_page.now pages.now lasts.now → IsNumberedAfter cs now number stamp
-        → p.rows ≡ rows_of (made cs changes.now now)) }
-    ensures calls { IfOk result (λ p. (cs : Catalog) (now : ℕ) → IsKnownOf cs changes.now last_page.now pages.now lasts.now → IsNumberedAfter cs now number stamp
-        → p.calls ≡ commit_puts base.now cs (made cs changes.now now)) }
+    ensures rows { IfOk result (λ p. (cs : Catalog) (now : ℕ) → IsKnownOf cs changes.now last_page.now pages.now lasts.now
+        → IsNumberedAfter cs now number stamp → p.rows ≡ rows_of (made cs changes.now now)) }
+    ensures calls { IfOk result (λ p. (cs : Catalog) (now : ℕ) → IsKnownOf cs changes.now last_page.now pages.now lasts.now
+        → IsNumberedAfter cs now number stamp → p.calls ≡ commit_puts base.now cs (made cs changes.now now)) }
 {
     let places = places_of(alloc, base, changes, lasts, number, stamp)?;
     let mut calls = places.calls;

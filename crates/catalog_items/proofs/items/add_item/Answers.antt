@@ -1,8 +1,8 @@
-use Rattle.std.proofs.Common.{◌≡◌, ◌∙◌, ◌-◌, ◌+◌, ◌<◌, ◌++◌, ℕ, List, [], ◌∷◌, Some, ap, sym, subst, arith, length, slice_set, get_or}
+use Rattle.std.proofs.Common.{◌≡◌, ◌∙◌, ◌-◌, ◌+◌, ◌<◌, ◌++◌, List, [], ◌∷◌, ap, sym, arith, length, slice_set, get_or}
 use Rattle.std.proofs.lemmas.List.{get_or_default}
 use Rattle.pkg_meta.specs.declared.commit.Commit.{Commit}
 use Rattle.pkg_meta.specs.declared.item.Item.{Item}
-use Rattle.catalog_items.specs.Leaves.{commit_of_one, with_item}
+use Rattle.catalog_items.specs.Leaves.{commit_of_one}
 use Rattle.catalog_items.proofs.LeafReads.{in_first, in_last, in_new, on_ok}
 use Rattle.catalog_items.proofs.items.add_item.Goals.{else-count-gt0-via-then-count-gt0+else-index-row, else-count-gt0-via-else-count-gt0}
 use Rattle.catalog_items.proofs.items.add_item.Goals as goal

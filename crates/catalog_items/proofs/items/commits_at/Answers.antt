@@ -1,15 +1,12 @@
-use Rattle.std.proofs.Common.{◌≡◌, ◌∙◌, ◌<◌, ◌+◌, ◌++◌, ◌∷◌, [], List, Some, Err, ap, drop, take, length, subst, sym}
-use Rattle.std.specs.Prelude.{Contains}
+use Rattle.std.proofs.Common.{◌≡◌, ◌∙◌, ◌+◌, ◌++◌, ◌∷◌, [], List, Err, ap, drop, take, subst, sym}
 use Rattle.std.proofs.lemmas.List.{drop_more, take_more}
 use Rattle.std.proofs.lemmas.Result.{err_from_is_err_and}
 use Rattle.blob_store.specs.Events.{Get}
 use Rattle.pkg_meta.specs.declared.commit.Commit.{Commit}
-use Rattle.pkg_meta.specs.declared.item.Item.{Item}
 use Rattle.catalog_doc.specs.Names.{leaf_name}
 use Rattle.catalog_doc.specs.declared.row.Row.{Row}
 use Rattle.catalog_opening.proofs.Halting.{damaged_told}
-use Rattle.catalog_items.specs.Framing.{OnlyGets}
-use Rattle.catalog_items.specs.Leaves.{AreCommitsAt, commits_with, HoldsLeaves, IsNoLeafOf, with_item}
+use Rattle.catalog_items.specs.Leaves.{AreCommitsAt, commits_with, IsNoLeafOf, with_item}
 use Rattle.catalog_items.proofs.Getting.{gets_done, gets_none, gets_then, gets_told, memory_quietly, only_gets}
 use Rattle.catalog_items.proofs.LeafReads.{ComesTo, commits_more, holds_more, next_leaf}
 use Rattle.catalog_items.proofs.items.commits_at.Goals as goal

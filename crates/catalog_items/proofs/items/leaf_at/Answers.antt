@@ -4,7 +4,6 @@ use Rattle.blob_store.proofs.OneCall.{none}
 use Rattle.pkg_meta.specs.declared.item.Item.{Item}
 use Rattle.catalog_doc.specs.Names.{leaf_name}
 use Rattle.catalog_doc.specs.declared.row.Row.{Row}
-use Rattle.catalog_opening.specs.Errors.{IfDamagedRead}
 use Rattle.catalog_opening.specs.Plans.{HaltsAt}
 use Rattle.catalog_opening.proofs.Halting.{halts_made, never_fault}
 use Rattle.catalog_items.specs.Leaves.{HasNoLeaf, HoldsLeaf, IsNoLeafOf, leaf_gets, row_with}

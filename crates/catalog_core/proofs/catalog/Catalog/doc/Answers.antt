@@ -1,55 +1,42 @@
-use Rattle.std.proofs.Common.{◌≡◌, ◌∙◌, ap, subst, List, Option}
-use Rattle.blob_store.specs.Area.{Area}
-use Rattle.catalog_core.specs.Opened.{Opened}
-use Rattle.catalog_doc.specs.declared.row.Row.{Row}
-use Rattle.catalog_core.proofs.RowDocs.{absent_of, Damage, damage_of, exact_of, none_of, Nothing, some_of, Something}
+use Rattle.std.proofs.Common.{◌∙◌, ℕ, List, Err, ap, arith, length, inl, inr, refl, subst, sym}
+use Rattle.std.proofs.lemmas.Result.{err_from_is_err_and}
+use Rattle.catalog_doc.specs.CatDocs.{doc_at}
+use Rattle.catalog_opening.proofs.Halting.{damaged_told}
+use Rattle.catalog_items.specs.Reads.{IsAbsent, IsRead}
+use Rattle.catalog_items.proofs.Absent.{read_weaker}
+use Rattle.catalog_items.proofs.Getting.{only_gets}
+use Rattle.catalog_core.specs.Opened.{IsUnsettled}
+use Rattle.catalog_core.proofs.Frames.{ready_of, stays_gets}
+use Rattle.catalog_core.proofs.Reading.{doc_gets_are, doc_read, few_pages}
 use Rattle.catalog_core.proofs.catalog.Catalog.doc.Goals as goal
 
-its_rows : {B : Type 0} (rows : List Row) (inside now : Opened B) → rows ≡ inside.rows → inside ≡ now → rows ≡ now.rows
-its_rows rows inside now are is = are ∙ ap (λ (o : Opened _). o.rows) is
+pub returns-in_err-settle-clause-damaged : goal.returns-in_err-settle-clause-damaged
+returns-in_err-settle-clause-damaged g c = λ m now held at.
+    let p = err_from_is_err_and c.from_residual.result c.from_residual.ensures.1 in
+    damaged_told (IsUnsettled m c.args.self.now) _ c.from_residual.result c.in_err-settle.field-0.0 (p.1 ∙ ap Err p.2) (λ name told. inl told) (c.in_err-settle.ensures.damaged m held)
 
-its_area : {B : Type 0} (held : B → Option Area) (inside now : Opened B) → inside ≡ now → held inside.area ≡ held now.area
-its_area held inside now is = ap (λ (o : Opened _). held o.area) is
+pub returns-clause-reads : goal.returns-clause-reads
+returns-clause-reads g c = λ cs open_for.
+    let stays = c.in_ok-settle.ensures.stays in
+    let opened = rw (← c.self.view_is) at (stays.open_for cs open_for).open_for in
+    let ready = ready_of _ _ cs (rw (← c.self.view_is) at c.in_ok-settle.ensures.settled) opened in
+    let few = few_pages _ _ cs ready in
+    subst (λ (base : List ℕ). IsRead (doc_at base cs c.args.name.now) c.document_at.result) (rw (← c.self.view_is) at stays.base)
+    (doc_read _ _ cs ready c.args.name.now c.as_slice.result.now c.page_count-pages.result c.as_slice.ensures
+    (c.page_count-pages.ensures (omega (arith, few, ap length c.pages.ensures)) ∙ ap length c.pages.ensures)
+    c.document_at.result c.document_at.ensures.none c.document_at.ensures.some c.document_at.ensures.found c.document_at.ensures.own c.document_at.ensures.damaged)
 
-pub returns-clause-none : goal.returns-clause-none
-returns-clause-none g c =
-    let rows = its_rows c.as_slice.result.now _ _ c.as_slice.ensures c.self.view_is in
-    none_of c.args.self.now.base c.args.name.now c.args.self.now.rows c.document_at.result
-    (subst (λ (l : List Row). Nothing c.args.name.now l c.document_at.result) rows c.document_at.ensures.none)
+pub returns-clause-stays : goal.returns-clause-stays
+returns-clause-stays g c =
+    stays_gets _ _ _ _ (g.B.Blobs.seen c.self.inside.area) _ _ _ (rw (← c.self.view_is) at c.in_ok-settle.ensures.stays) (λ is. let no : ⊥ = cc in no)
+    (only_gets _ _ _ (doc_gets_are _ c.args.name.now) c.document_at.result c.document_at.ensures.runs) refl refl refl
 
-pub returns-clause-some : goal.returns-clause-some
-returns-clause-some g c =
-    let rows = its_rows c.as_slice.result.now _ _ c.as_slice.ensures c.self.view_is in
-    let area = its_area (λ b. (g.B.Blobs.seen b).held) _ _ c.self.view_is in
-    some_of c.args.self.now.base c.args.name.now c.args.self.now.rows (g.B.Blobs.seen c.args.self.now.area).held c.document_at.result
-    (subst (λ (h : Option Area). Something c.args.name.now c.args.self.now.rows h c.document_at.result) area
-    (subst (λ (l : List Row). Something c.args.name.now l (g.B.Blobs.seen c.self.inside.area).held c.document_at.result) rows c.document_at.ensures.some))
+pub returns-clause-held : goal.returns-clause-held
+returns-clause-held g c = λ now at.
+    let gets = only_gets _ _ _ (doc_gets_are _ c.args.name.now) c.document_at.result c.document_at.ensures.runs in
+    c.document_at.ensures.found now (sym gets.area ∙ at)
 
 pub returns-clause-damaged : goal.returns-clause-damaged
-returns-clause-damaged g c =
-    let rows = its_rows c.as_slice.result.now _ _ c.as_slice.ensures c.self.view_is in
-    let area = its_area (λ b. (g.B.Blobs.seen b).held) _ _ c.self.view_is in
-    damage_of c.args.self.now.base c.args.name.now c.args.self.now.rows (g.B.Blobs.seen c.args.self.now.area).held c.document_at.result
-    (subst (λ (h : Option Area). Damage c.args.name.now c.args.self.now.rows h c.document_at.result) area
-    (subst (λ (l : List Row). Damage c.args.name.now l (g.B.Blobs.seen c.self.inside.area).held c.document_at.result) rows c.document_at.ensures.damaged))
-
-pub returns-clause-exact : goal.returns-clause-exact
-returns-clause-exact g c =
-    let rows = its_rows c.as_slice.result.now _ _ c.as_slice.ensures c.self.view_is in
-    let area = its_area (λ b. (g.B.Blobs.seen b).held) _ _ c.self.view_is in
-    exact_of c.args.self.now.base c.args.name.now c.args.self.now.rows (g.B.Blobs.seen c.args.self.now.area).held c.document_at.result
-    (subst (λ (l : List Row). Nothing c.args.name.now l c.document_at.result) rows c.document_at.ensures.none)
-    (subst (λ (h : Option Area). Something c.args.name.now c.args.self.now.rows h c.document_at.result) area
-    (subst (λ (l : List Row). Something c.args.name.now l (g.B.Blobs.seen c.self.inside.area).held c.document_at.result) rows c.document_at.ensures.some))
-    (subst (λ (h : Option Area). Damage c.args.name.now c.args.self.now.rows h c.document_at.result) area
-    (subst (λ (l : List Row). Damage c.args.name.now l (g.B.Blobs.seen c.self.inside.area).held c.document_at.result) rows c.document_at.ensures.damaged))
-
-pub returns-clause-absent : goal.returns-clause-absent
-returns-clause-absent g c =
-    let rows = its_rows c.as_slice.result.now _ _ c.as_slice.ensures c.self.view_is in
-    let area = its_area (λ b. (g.B.Blobs.seen b).held) _ _ c.self.view_is in
-    absent_of c.args.self.now.base c.args.name.now c.args.self.now.rows (g.B.Blobs.seen c.args.self.now.area).held c.document_at.result
-    (subst (λ (h : Option Area). Something c.args.name.now c.args.self.now.rows h c.document_at.result) area
-    (subst (λ (l : List Row). Something c.args.name.now l (g.B.Blobs.seen c.self.inside.area).held c.document_at.result) rows c.document_at.ensures.some))
-    (subst (λ (h : Option Area). Damage c.args.name.now c.args.self.now.rows h c.document_at.result) area
-    (subst (λ (l : List Row). Damage c.args.name.now l (g.B.Blobs.seen c.self.inside.area).held c.document_at.result) rows c.document_at.ensures.damaged))
+returns-clause-damaged g c = λ m now held at.
+    let gets = only_gets _ _ _ (doc_gets_are _ c.args.name.now) c.document_at.result c.document_at.ensures.runs in
+    read_weaker (IsAbsent c.args.name.now now) _ c.document_at.result (λ name told. inr told) (c.document_at.ensures.damaged now (sym gets.area ∙ at))
