@@ -1,23 +1,20 @@
--- The bodies of the documents of a catalog of bare publishes, where an area holds the catalog whole: what the area holds is what the catalog has.
-use Rattle.std.proofs.Common.{◌≡◌, ◌+◌, ℕ, zero, suc, List, [], ◌∷◌, ◌++◌, Bool, true, false, cond, ◌&&◌, ◌||◌, Option, Some, None, IfSome, IsSome, refl, sym, ◌∙◌, ap, subst, arith}
+-- The bodies of the documents of a catalog: each publish that a document is of stands in the catalog.
+use Rattle.std.proofs.Common.{◌≡◌, ◌+◌, ℕ, zero, suc, List, [], ◌∷◌, ◌++◌, length, Bool, true, false, cond, ◌&&◌, ◌||◌, Option, Some, None, IfSome, IsSome, refl, sym, ◌∙◌, ap, subst, append_assoc, append-nil, length-append, arith}
 use Rattle.std.proofs.lemmas.Bool.Decides.{nat_tests}
 use Rattle.std.proofs.lemmas.Grind.{flat_map-append}
+use Rattle.std.proofs.lemmas.List.Folds.{flat_map-map}
 use Rattle.std.proofs.lemmas.Option.{get_or_from_slice_get, slice_get_within}
-use Rattle.std.specs.FinMap.{get}
-use Rattle.std.specs.List.{AllByRecursion, filter, list_any, slice_get}
-use Rattle.std.specs.Option.{is_some, option_and_then, option_map}
+use Rattle.std.specs.List.{AllByRecursion, Contains, filter, list_any, slice_get}
+use Rattle.std.specs.Option.{option_and_then, option_map}
 use Rattle.std.specs.Prelude.{flat_map, ◌==◌}
-use Rattle.blob_store.specs.Area.{Area}
-use Rattle.blob_store.specs.declared.call.Call.{Call}
 use Rattle.pkg_meta.specs.Catalog.{Catalog}
 use Rattle.pkg_meta.specs.declared.commit.Staged.{Staged}
 use Rattle.pkg_meta.specs.declared.commit.Stored.{Stored}
-use Rattle.pkg_meta.specs.Lawful.{Placed}
+use Rattle.pkg_meta.specs.Lawful.{AreLawfulItems, IsLawfulItem, IsNext, IsOfDetails, MayFollow, Placed, all_placed, has_pair, last_like, last_of, or_earlier, placed_from, placed_of}
+use Rattle.pkg_meta.specs.declared.entry.Entry.{Entry}
+use Rattle.pkg_meta.specs.declared.item.Details.{Details}
 use Rattle.pkg_meta.specs.declared.item.Item.{Item}
 use Rattle.pkg_meta.specs.declared.item.Item.TheVariants as the
-use Rattle.catalog_doc.specs.Names.{nupkg_name, nuspec_name}
-use Rattle.catalog_core.specs.Plain.{ArePlainFrom, IsPlain, IsPlainCommit}
-use Rattle.catalog_core.specs.Whole.{HoldsStaged}
 use Rattle.fold_core.specs.Docs.{Makes, brought_at, brought_in, bytes_of, docs_of, part}
 use Rattle.fold_core.specs.Entries.{Keeps, entries_of, entry_at}
 use Rattle.fold_core.specs.Items.{commits_of, is_of, items_in, items_of, touched, touched_stamp}
@@ -25,32 +22,64 @@ use Rattle.fold_core.specs.Laws.{AreOfEntries, IsOfEntry, has_origin}
 use Rattle.fold_core.specs.declared.doc.Body.{Body}
 use Rattle.fold_core.specs.declared.doc.Body.TheVariants.{Made, Staged as FromPublish}
 use Rattle.fold_core.specs.declared.doc.Doc.{Doc}
-use Rattle.pkg_meta.specs.declared.entry.Entry.{Entry}
 use Rattle.fold_core.proofs.Rising.{all_joined, entries_all}
-use Rattle.job_round.specs.Puts.{bytes_in, doc_put, doc_puts, HaveAllBytes, HaveBytes, id_puts, index_last, keys_puts, put_of}
+use Rattle.job_round.specs.Puts.{HaveAllBytes, HaveBytes}
 
--- the area holds what the catalog's publish at this number and place brought
-record IsThere (m : Area) (cs : Catalog) (number place : ℕ) : Type 0 where
-  brought : Staged
-  stands : brought_at cs number place ≡ Some brought
-  nupkg : get m (nupkg_name number place) ≡ Some brought.nupkg
-  nuspec : get m (nuspec_name number place) ≡ Some brought.nuspec
+-- the catalog has a publish at this number and place
+abbrev IsThere : Catalog → ℕ → ℕ → Type 0
+IsThere cs number place = IsSome (brought_at cs number place)
 
--- the item's publish is there
-abbrev HasOrigin : Area → Catalog → Item → Type 0
-HasOrigin m cs (the.Details d) = IsThere m cs d.origin_number d.origin_place
-HasOrigin m cs (the.Gone i v) = Unit {0}
+-- it has the item's publish
+abbrev HasOrigin : Catalog → Item → Type 0
+HasOrigin cs (the.Details d) = IsThere cs d.origin_number d.origin_place
+HasOrigin cs (the.Gone i v) = Unit {0}
 
--- the area holds the body's bytes, which are the catalog's
-abbrev pub IsSame : Area → Catalog → Body → Type 0
-IsSame m cs body = (bytes_in m body ≡ bytes_of cs body) × IsSome (bytes_in m body)
+abbrev HaveOrigins : Catalog → List Placed → Type 0
+HaveOrigins cs xs = AllByRecursion (λ (x : Placed). HasOrigin cs x.what) xs
 
-abbrev pub AreSame : Area → Catalog → List Doc → Type 0
-AreSame m cs docs = AllByRecursion (λ (d : Doc). IsSame m cs d.body) docs
+-- the publish that a body is of
+pub record IsBrought (cs : Catalog) (number place : ℕ) (nuspec : Bool) : Type 0 where
+  pub commit : Stored
+  pub brought : Staged
+  pub within : Contains cs commit
+  pub number_is : commit.commit.number ≡ number
+  pub stands : slice_get commit.staged place ≡ Some (Some brought)
+  pub bytes : bytes_of cs (FromPublish number place nuspec) ≡ Some (part nuspec brought)
 
-there_same : (m : Area) (cs : Catalog) (n p : ℕ) (nuspec : Bool) → IsThere m cs n p → IsSame m cs (FromPublish n p nuspec)
-there_same m cs n p true there = (there.nuspec ∙ sym (ap (option_map (part true)) there.stands), ap is_some there.nuspec)
-there_same m cs n p false there = (there.nupkg ∙ sym (ap (option_map (part false)) there.stands), ap is_some there.nupkg)
+-- the number of the commit at a place of a catalog
+number_from : (before cs : Catalog) (c : Stored) (k : ℕ) → MayFollow before cs → slice_get cs k ≡ Some c → c.commit.number ≡ length before + suc k
+number_from before [] c k follows is = absurd (let no : ⊥ = cc in no)
+number_from before (d ∷ cs) c zero follows is = let same : d ≡ c = cc in omega (arith, follows.0.number, ap (λ (x : Stored). x.commit.number) same)
+number_from before (d ∷ cs) c (suc k) follows is =
+    let rest = number_from (before ++ d ∷ []) cs c k follows.1 is in
+    let longer = length-append before (d ∷ []) in
+    omega (arith, rest, longer)
+
+none_some : (P : Type 0) → false ≡ true → P
+none_some P some = absurd (let no : ⊥ = cc in no)
+
+in_commit : (cs : Catalog) (n place : ℕ) (nuspec : Bool) (c : Stored) (o : Option (Option Staged)) → MayFollow [] cs → slice_get cs n ≡ Some c → slice_get c.staged place ≡ o
+    → IsSome (option_map (part nuspec) (option_and_then (λ (s : Option Staged). s) o)) → IsBrought cs (suc n) place nuspec
+in_commit cs n place nuspec c None follows at is some = none_some (IsBrought cs (suc n) place nuspec) some
+in_commit cs n place nuspec c (Some None) follows at is some = none_some (IsBrought cs (suc n) place nuspec) some
+in_commit cs n place nuspec c (Some (Some brought)) follows at is some = record {
+  commit = c;
+  brought = brought;
+  within = (n, slice_get_within cs n c at, get_or_from_slice_get cs n c c at);
+  number_is = omega (arith, number_from [] cs c n follows at);
+  stands = is;
+  bytes = ap (λ (o : Option Stored). option_map (part nuspec) (option_and_then (brought_in place) o)) at ∙ ap (λ (o : Option (Option Staged)). option_map (part nuspec) (option_and_then (λ (s : Option Staged). s) o)) is;
+}
+
+in_catalog : (cs : Catalog) (n place : ℕ) (nuspec : Bool) (o : Option Stored) → MayFollow [] cs → slice_get cs n ≡ o → IsSome (option_map (part nuspec) (option_and_then (brought_in place) o))
+    → IsBrought cs (suc n) place nuspec
+in_catalog cs n place nuspec None follows at some = none_some (IsBrought cs (suc n) place nuspec) some
+in_catalog cs n place nuspec (Some c) follows at some = in_commit cs n place nuspec c (slice_get c.staged place) follows at refl some
+
+-- a publish's bytes, where the catalog has them
+pub brought_of : (cs : Catalog) (number place : ℕ) (nuspec : Bool) → MayFollow [] cs → IsSome (bytes_of cs (FromPublish number place nuspec)) → IsBrought cs number place nuspec
+brought_of cs zero place nuspec follows some = none_some (IsBrought cs zero place nuspec) some
+brought_of cs (suc n) place nuspec follows some = in_catalog cs n place nuspec (slice_get cs n) follows refl some
 
 first_test : (x y : ℕ) (b : Bool) → ((x == y) && b) ≡ true → x ≡ y
 first_test x y b e = grind (arith, nat_tests)
@@ -63,107 +92,130 @@ skipped : (a b : Bool) → a ≡ false → (a || b) ≡ true → b ≡ true
 skipped true b e is = cc
 skipped false b e is = is
 
-module _ (m : Area) (cs : Catalog) where
-  any_there : (n p : ℕ) (es : List Entry) → AllByRecursion (λ (e : Entry). IsThere m cs e.details.origin_number e.details.origin_place) es
-      → list_any (has_origin n p) es ≡ true → IsThere m cs n p
-  any_there n p [] all is = cc
-  any_there n p (e ∷ es) all is =
-      elim (has_origin n p e) as (λ (b : Bool). has_origin n p e ≡ b → IsThere m cs n p) [
-        | true ↦ λ here. subst (λ (k : ℕ). IsThere m cs k p) (first_test e.details.origin_number n (e.details.origin_place == p) here)
-            (subst (λ (k : ℕ). IsThere m cs e.details.origin_number k) (second_test e.details.origin_place p (e.details.origin_number == n) here) all.0)
-        | false ↦ λ here. any_there n p es all.1 (skipped (has_origin n p e) (list_any (has_origin n p) es) here is)
-      ] refl
+mapped : {X Y : Type 0} (f : X → Y) (o : Option X) → IsSome o → IsSome (option_map f o)
+mapped f None some = none_some (IsSome (option_map f None)) some
+mapped f (Some x) some = refl
 
-  body_same : (es : List Entry) (body : Body) → AllByRecursion (λ (e : Entry). IsThere m cs e.details.origin_number e.details.origin_place) es → IsOfEntry es body → IsSame m cs body
-  body_same es (Made bytes) all is = (refl, refl)
-  body_same es (FromPublish n p nuspec) all is = there_same m cs n p nuspec (any_there n p es all is)
+module _ (cs : Catalog) where
+  abbrev AreThere : List Entry → Type 0
+  AreThere es = AllByRecursion (λ (e : Entry). IsThere cs e.details.origin_number e.details.origin_place) es
 
-  docs_same : (es : List Entry) (docs : List Doc) → AllByRecursion (λ (e : Entry). IsThere m cs e.details.origin_number e.details.origin_place) es → AreOfEntries es docs → AreSame m cs docs
-  docs_same es [] all are = tt
-  docs_same es (d ∷ docs) all are = (body_same es d.body all are.0, docs_same es docs all are.1)
+  -- what holds of each item holds of a version's last
+  either : (o p : Option Placed) → IfSome o (λ (x : Placed). HasOrigin cs x.what) → IfSome p (λ (x : Placed). HasOrigin cs x.what) → IfSome (or_earlier o p) (λ (x : Placed). HasOrigin cs x.what)
+  either None p h k = k
+  either (Some x) p h k = h
 
-  filter_all : (p : Placed → Bool) (xs : List Placed) → AllByRecursion (λ (x : Placed). HasOrigin m cs x.what) xs → AllByRecursion (λ (x : Placed). HasOrigin m cs x.what) (filter p xs)
+  if_pair : (b : Bool) (x : Placed) → HasOrigin cs x.what → IfSome (cond b (Some x) None) (λ (y : Placed). HasOrigin cs y.what)
+  if_pair true x h = h
+  if_pair false x h = tt
+
+  last_has : (id version : List ℕ) (xs : List Placed) → HaveOrigins cs xs → IfSome (last_of id version xs) (λ (x : Placed). HasOrigin cs x.what)
+  last_has id version [] all = tt
+  last_has id version (x ∷ xs) all =
+      either (last_of id version xs) (cond (has_pair id version x.what) (Some x) None) (last_has id version xs all.1) (if_pair (has_pair id version x.what) x all.0)
+
+  of_details : (o : Option Placed) (d : Details) → IfSome o (λ (x : Placed). HasOrigin cs x.what) → IsOfDetails o d → IsThere cs d.origin_number d.origin_place
+  of_details None d has is = absurd is
+  of_details (Some x) d has is = subst (HasOrigin cs) is has
+
+  -- the items of a commit that stands in the catalog behind so many others
+  module _ (before : List Placed) (n stamp : ℕ) (c : Stored) (at : slice_get cs n ≡ Some c) where
+    publish_there : (place : ℕ) (brought : Staged) → slice_get c.staged place ≡ Some (Some brought) → IsThere cs (suc n) place
+    publish_there place brought is =
+        subst (λ (o : Option Stored). IsSome (option_and_then (brought_in place) o)) (sym at)
+        (subst (λ (o : Option (Option Staged)). IsSome (option_and_then (λ (s : Option Staged). s) o)) (sym is) refl)
+
+    item_there : (place : ℕ) (it : Item) (s : Option Staged) → HaveOrigins cs before → slice_get c.staged place ≡ Some s → IsLawfulItem before (suc n) stamp place it s → HasOrigin cs it
+    item_there place (the.Details d) (Some brought) all is lawful =
+        let number : d.origin_number ≡ suc n = ap (λ (e : Details). e.origin_number) lawful.itself in
+        let own : d.origin_place ≡ place = ap (λ (e : Details). e.origin_place) lawful.itself in
+        subst (λ (k : ℕ). IsThere cs k d.origin_place) (sym number) (subst (IsThere cs (suc n)) (sym own) (publish_there place brought is))
+    item_there place (the.Details d) None all is (was, same, last) =
+        let number : was.origin_number ≡ d.origin_number = sym (ap (λ (e : Details). e.origin_number) same) in
+        let own : was.origin_place ≡ d.origin_place = sym (ap (λ (e : Details). e.origin_place) same) in
+        subst (λ (k : ℕ). IsThere cs k d.origin_place) number (subst (IsThere cs was.origin_number) own
+        (of_details (last_like (the.Details d) before) was (last_has _ _ before all) last))
+    item_there place (the.Gone i v) s all is lawful = tt
+
+    items_there : (place : ℕ) (items : List Item) (staged : List (Option Staged)) → HaveOrigins cs before
+        → ((k : ℕ) (s : Option Staged) → slice_get staged k ≡ Some s → slice_get c.staged (place + k) ≡ Some s)
+        → AreLawfulItems before (suc n) stamp place items staged → HaveOrigins cs (placed_from (suc n) stamp place items)
+    items_there place [] staged all stands lawful = tt
+    items_there place (it ∷ items) [] all stands lawful = absurd lawful
+    items_there place (it ∷ items) (s ∷ staged) all stands lawful =
+        let here : place + 0 ≡ place = omega arith in (
+          item_there place it s all (subst (λ (k : ℕ). slice_get c.staged k ≡ Some s) here (stands 0 s refl)) lawful.0,
+          items_there (suc place) items staged all
+              (λ k x is. let next : place + suc k ≡ suc place + k = omega arith in subst (λ (j : ℕ). slice_get c.staged j ≡ Some x) next (stands (suc k) x is)) lawful.1,
+        )
+
+  next_there : (before : Catalog) (c : Stored) → HaveOrigins cs (all_placed before) → slice_get cs (length before) ≡ Some c → IsNext before c → HaveOrigins cs (all_placed (before ++ c ∷ []))
+  next_there before c all at next =
+      let number : c.commit.number ≡ suc (length before) = omega (arith, next.number) in
+      subst (HaveOrigins cs) (sym (flat_map-append placed_of before (c ∷ []) ∙ ap (λ (l : List Placed). all_placed before ++ l) (append-nil (placed_of c))))
+      (all_joined (λ (x : Placed). HasOrigin cs x.what) (all_placed before) (placed_of c) all
+      (subst (λ (n : ℕ). HaveOrigins cs (placed_from n c.commit.stamp 0 c.commit.items)) (sym number)
+      (items_there (all_placed before) (length before) c.commit.stamp c at 0 c.commit.items c.staged all (λ k s is. let same : 0 + k ≡ k = omega arith in subst (λ (j : ℕ). slice_get c.staged j ≡ Some s) (sym same) is)
+      (subst (λ (n : ℕ). AreLawfulItems (all_placed before) n c.commit.stamp 0 c.commit.items c.staged) number next.items))))
+
+  grown : (before rest : Catalog) → ((k : ℕ) (c : Stored) → slice_get rest k ≡ Some c → slice_get cs (length before + k) ≡ Some c) → HaveOrigins cs (all_placed before) → MayFollow before rest
+      → HaveOrigins cs (all_placed (before ++ rest))
+  grown before [] stands all follows = subst (λ (l : Catalog). HaveOrigins cs (all_placed l)) (sym (append-nil before)) all
+  grown before (c ∷ rest) stands all follows =
+      let here : length before + 0 ≡ length before = omega arith in
+      let longer : length (before ++ c ∷ []) ≡ length before + 1 = length-append before (c ∷ []) in
+      subst (λ (l : Catalog). HaveOrigins cs (all_placed l)) (append_assoc before (c ∷ []) rest)
+      (grown (before ++ c ∷ []) rest (λ k d is. let next : length before + suc k ≡ length (before ++ c ∷ []) + k = omega (arith, longer) in subst (λ (j : ℕ). slice_get cs j ≡ Some d) next (stands (suc k) d is))
+      (next_there before c all (subst (λ (j : ℕ). slice_get cs j ≡ Some c) here (stands 0 c refl)) follows.0) follows.1)
+
+  all_origins : MayFollow [] cs → HaveOrigins cs (all_placed cs)
+  all_origins follows = grown [] cs (λ k c is. let same : 0 + k ≡ k = omega arith in subst (λ (j : ℕ). slice_get cs j ≡ Some c) (sym same) is) tt follows
+
+  filter_all : (p : Placed → Bool) (xs : List Placed) → HaveOrigins cs xs → HaveOrigins cs (filter p xs)
   filter_all p [] all = tt
   filter_all p (x ∷ xs) all =
-      elim (p x) as (λ (b : Bool). AllByRecursion (λ (y : Placed). HasOrigin m cs y.what) (cond b (x ∷ filter p xs) (filter p xs))) [
+      elim (p x) as (λ (b : Bool). HaveOrigins cs (cond b (x ∷ filter p xs) (filter p xs))) [
         | true ↦ (all.0, filter_all p xs all.1)
         | false ↦ filter_all p xs all.1
       ]
 
-  kept : (keeps : Keeps) (number place : ℕ) (it : Item) → HasOrigin m cs it
-      → IfSome (entry_at keeps number place it) (λ (e : Entry). IsThere m cs e.details.origin_number e.details.origin_place)
+  kept : (keeps : Keeps) (number place : ℕ) (it : Item) → HasOrigin cs it
+      → IfSome (entry_at keeps number place it) (λ (e : Entry). IsThere cs e.details.origin_number e.details.origin_place)
   kept keeps number place (the.Details d) there =
-      elim (keeps d) as (λ (b : Bool). IfSome (cond b (Some (record { number = number; place = place; details = d })) None) (λ (e : Entry). IsThere m cs e.details.origin_number e.details.origin_place)) [
+      elim (keeps d) as (λ (b : Bool). IfSome (cond b (Some (record { number = number; place = place; details = d })) None) (λ (e : Entry). IsThere cs e.details.origin_number e.details.origin_place)) [
         | true ↦ there
         | false ↦ tt
       ]
   kept keeps number place (the.Gone i v) there = tt
 
-  -- the publish of a commit
-  module _ (holds : HoldsStaged m cs) where
-    one_there : (n last : ℕ) (c : Stored) (p : IsPlainCommit (suc n) last c) → slice_get cs n ≡ Some c → IsThere m cs (suc n) 0
-    one_there n last c p stands =
-        let number : c.commit.number ≡ suc n = ap (λ (x : Stored). x.commit.number) p.made in
-        let files = holds c 0 (record { nuspec = p.nuspec; nupkg = p.nupkg }) (n, slice_get_within cs n c stands, get_or_from_slice_get cs n c c stands) (ap (λ (x : Stored). slice_get x.staged 0) p.made) in
-        record {
-          brought = record { nuspec = p.nuspec; nupkg = p.nupkg };
-          stands = ap (option_and_then (brought_in 0)) stands ∙ ap (brought_in 0) p.made;
-          nupkg = subst (λ (k : ℕ). get m (nupkg_name k 0) ≡ Some p.nupkg) number files.0;
-          nuspec = subst (λ (k : ℕ). get m (nuspec_name k 0) ≡ Some p.nuspec) number files.1;
-        }
+  entries_there : (keeps : Keeps) (key : List ℕ) → MayFollow [] cs → AreThere (entries_of keeps (items_of (commits_of cs) key))
+  entries_there keeps key follows =
+      entries_all (λ (x : Placed). HasOrigin cs x.what) keeps (λ (e : Entry). IsThere cs e.details.origin_number e.details.origin_place)
+      (λ x there. kept keeps x.number x.place x.what there) (items_of (commits_of cs) key)
+      (filter_all (λ (x : Placed). is_of key x.what) (flat_map items_in (commits_of cs))
+      (subst (HaveOrigins cs) (sym (flat_map-map items_in (λ (c : Stored). c.commit) cs)) (all_origins follows)))
 
-    one_commit : (n last : ℕ) (c : Stored) (p : IsPlainCommit (suc n) last c) → slice_get cs n ≡ Some c → AllByRecursion (λ (x : Placed). HasOrigin m cs x.what) (items_in c.commit)
-    one_commit n last c p stands =
-        subst (λ (s : Stored). AllByRecursion (λ (x : Placed). HasOrigin m cs x.what) (items_in s.commit)) (sym p.made) (one_there n last c p stands, tt)
+  any_there : (n p : ℕ) (es : List Entry) → AreThere es → list_any (has_origin n p) es ≡ true → IsThere cs n p
+  any_there n p [] all is = cc
+  any_there n p (e ∷ es) all is =
+      elim (has_origin n p e) as (λ (b : Bool). has_origin n p e ≡ b → IsThere cs n p) [
+        | true ↦ λ here. subst (λ (k : ℕ). IsThere cs k p) (first_test e.details.origin_number n (e.details.origin_place == p) here)
+            (subst (λ (k : ℕ). IsThere cs e.details.origin_number k) (second_test e.details.origin_place p (e.details.origin_number == n) here) all.0)
+        | false ↦ λ here. any_there n p es all.1 (skipped (has_origin n p e) (list_any (has_origin n p) es) here is)
+      ] refl
 
-    all_commits : (n last : ℕ) (rest : Catalog) → ArePlainFrom (suc n) last rest → ((k : ℕ) (c : Stored) → slice_get rest k ≡ Some c → slice_get cs (n + k) ≡ Some c)
-        → AllByRecursion (λ (x : Placed). HasOrigin m cs x.what) (flat_map items_in (commits_of rest))
-    all_commits n last [] plain stands = tt
-    all_commits n last (c ∷ rest) plain stands =
-        let here : n + 0 ≡ n = omega arith in
-        all_joined (λ (x : Placed). HasOrigin m cs x.what) (items_in c.commit) (flat_map items_in (commits_of rest))
-        (one_commit n last c plain.0 (subst (λ (k : ℕ). slice_get cs k ≡ Some c) here (stands 0 c refl)))
-        (all_commits (suc n) c.commit.stamp rest plain.1 (λ k d is. let next : suc n + k ≡ n + suc k = omega arith in ap (slice_get cs) next ∙ stands (suc k) d is))
+  body_there : (es : List Entry) (body : Body) → AreThere es → IsOfEntry es body → IsSome (bytes_of cs body)
+  body_there es (Made bytes) all is = refl
+  body_there es (FromPublish n p nuspec) all is = mapped (part nuspec) (brought_at cs n p) (any_there n p es all is)
 
-    entries_there : (keeps : Keeps) (key : List ℕ) → IsPlain cs
-        → AllByRecursion (λ (e : Entry). IsThere m cs e.details.origin_number e.details.origin_place) (entries_of keeps (items_of (commits_of cs) key))
-    entries_there keeps key plain =
-        entries_all (λ (x : Placed). HasOrigin m cs x.what) keeps (λ (e : Entry). IsThere m cs e.details.origin_number e.details.origin_place)
-        (λ x there. kept keeps x.number x.place x.what there) (items_of (commits_of cs) key)
-        (filter_all (λ (x : Placed). is_of key x.what) (flat_map items_in (commits_of cs))
-        (all_commits 0 0 cs plain.commits (λ k c is. let same : 0 + k ≡ k = omega arith in ap (slice_get cs) same ∙ is)))
+  docs_there : (es : List Entry) (docs : List Doc) → AreThere es → AreOfEntries es docs → HaveBytes (bytes_of cs) docs
+  docs_there es [] all are d there = absurd (omega (arith, there.1))
+  docs_there es (x ∷ docs) all are d (zero, few, is) = subst (λ (y : Doc). IsSome (bytes_of cs y.body)) is (body_there es x.body all are.0)
+  docs_there es (x ∷ docs) all are d (suc i, few, is) = docs_there es docs all are.1 d (i, omega (arith, few), is)
 
-  -- equal bytes make equal puts
-  same_puts : (docs : List Doc) → AreSame m cs docs → doc_puts (bytes_in m) docs ≡ doc_puts (bytes_of cs) docs
-  same_puts [] same = refl
-  same_puts (d ∷ docs) same =
-      ap (λ (o : Option (List ℕ)). put_of d.name o ++ doc_puts (bytes_in m) docs) same.0.0 ∙ ap (λ (l : List Call). doc_put (bytes_of cs) d ++ l) (same_puts docs same.1)
-
-  same_behind : (docs : List Doc) → AreSame m cs docs → doc_puts (bytes_in m) (index_last docs) ≡ doc_puts (bytes_of cs) (index_last docs)
-  same_behind [] same = refl
-  same_behind (d ∷ docs) same =
-      flat_map-append (doc_put (bytes_in m)) docs (d ∷ [])
-      ∙ ap (λ (l : List Call). l ++ doc_puts (bytes_in m) (d ∷ [])) (same_puts docs same.1)
-      ∙ ap (λ (l : List Call). doc_puts (bytes_of cs) docs ++ l) (same_puts (d ∷ []) (same.0, tt))
-      ∙ sym (flat_map-append (doc_put (bytes_of cs)) docs (d ∷ []))
-
-  have : (docs : List Doc) → AreSame m cs docs → HaveBytes (bytes_in m) docs
-  have [] same d there = absurd (omega (arith, there.1))
-  have (x ∷ docs) same d (zero, few, is) = subst (λ (y : Doc). IsSome (bytes_in m y.body)) is same.0.1
-  have (x ∷ docs) same d (suc i, few, is) = have docs same.1 d (i, omega (arith, few), is)
-
-  module _ (keeps : Keeps) (makes : Makes) (base : List ℕ) (staged : (key : List ℕ) (number stamp : ℕ) (es : List Entry) → AreOfEntries es (makes base key number stamp es)) where
-    -- of a catalog that the area holds whole
-    pub id_same : HoldsStaged m cs → IsPlain cs → (key : List ℕ) → AreSame m cs (docs_of keeps makes base (commits_of cs) key)
-    id_same holds plain key =
-        docs_same (entries_of keeps (items_of (commits_of cs) key)) (docs_of keeps makes base (commits_of cs) key) (entries_there holds keeps key plain)
-        (staged key (touched (commits_of cs) key) (touched_stamp (commits_of cs) key) (entries_of keeps (items_of (commits_of cs) key)))
-
-    pub keys_same : HoldsStaged m cs → IsPlain cs → (keys : List (List ℕ)) → keys_puts keeps makes base (commits_of cs) (bytes_in m) keys ≡ keys_puts keeps makes base (commits_of cs) (bytes_of cs) keys
-    keys_same holds plain [] = refl
-    keys_same holds plain (key ∷ keys) =
-        ap (λ (l : List Call). l ++ keys_puts keeps makes base (commits_of cs) (bytes_in m) keys) (same_behind (docs_of keeps makes base (commits_of cs) key) (id_same holds plain key))
-        ∙ ap (λ (l : List Call). id_puts keeps makes base (commits_of cs) (bytes_of cs) key ++ l) (keys_same holds plain keys)
-
-    pub all_there : HoldsStaged m cs → IsPlain cs → (keys : List (List ℕ)) → HaveAllBytes (docs_of keeps makes base (commits_of cs)) (bytes_in m) keys
-    all_there holds plain keys key there = have (docs_of keeps makes base (commits_of cs) key) (id_same holds plain key)
+  -- of a lawful catalog each document has bytes
+  pub all_there : (keeps : Keeps) (makes : Makes) (base : List ℕ) → ((key : List ℕ) (number stamp : ℕ) (es : List Entry) → AreOfEntries es (makes base key number stamp es))
+      → MayFollow [] cs → (keys : List (List ℕ)) → HaveAllBytes (docs_of keeps makes base (commits_of cs)) (bytes_of cs) keys
+  all_there keeps makes base staged follows keys key there =
+      docs_there (entries_of keeps (items_of (commits_of cs) key)) (docs_of keeps makes base (commits_of cs) key) (entries_there keeps key follows)
+      (staged key (touched (commits_of cs) key) (touched_stamp (commits_of cs) key) (entries_of keeps (items_of (commits_of cs) key)))

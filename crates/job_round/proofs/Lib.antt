@@ -7,7 +7,9 @@ pub mod Looks
 pub mod NextItem
 pub mod Runs
 pub mod Settled
+pub mod Staging
 pub mod StatePuts
+pub mod Stays
 pub mod Steps
 pub mod Stops
 pub mod Tops

@@ -1,5 +1,7 @@
 -- Runs of puts, one behind the other.
-use Rattle.std.proofs.Common.{◌≡◌, ◌++◌, ◌∷◌, [], List, Option, Some, None, Ok, Err, Result, ⊎_elim, option_map, sym, ◌∙◌, ap}
+use Rattle.std.proofs.Common.{◌≡◌, ◌++◌, ◌∷◌, [], ℕ, List, Option, Some, None, Ok, Err, IfErr, Result, ⊎_elim, option_map, refl, sym, ◌∙◌, ap}
+use Rattle.std.specs.Prelude.{IsErrOf, ⊤}
+use Rattle.feed_base.specs.Counts.{CountsFault}
 use Rattle.feed_base.proofs.Options.{at_some}
 use Rattle.blob_store.specs.Area.{Area}
 use Rattle.blob_store.specs.Blobs.{IsAfter}
@@ -8,7 +10,31 @@ use Rattle.blob_store.specs.declared.call.Call.{Call}
 use Rattle.blob_store.specs.declared.error.BlobErr.{BlobErr}
 use Rattle.blob_store.specs.declared.error.BlobErr.TheVariants.{Failed, Memory}
 use Rattle.blob_store.proofs.Fronts.{after_calls-append, front_all, front_append, front_behind, front_none}
-use Rattle.job_round.specs.Puts.{HasRun, HasRunSome}
+use Rattle.catalog_items.proofs.Getting.{counts_as}
+use Rattle.job_round.specs.Errors.{hive_err_of, IsCause}
+use Rattle.job_round.specs.Puts.{HasPut, HasRun, HasRunSome}
+use Rattle.job_round.specs.declared.error.RoundErr.{RoundErr}
+use Rattle.job_round.specs.declared.error.RoundErr.TheVariants.{HiveFault}
+
+-- the job's answer for that of the hive's store
+abbrev pub answer_of : {A : Type 0} → Result A BlobErr → Result A RoundErr
+answer_of (Ok a) = Ok a
+answer_of (Err e) = Err (hive_err_of e)
+
+pub answer_cause : {A : Type 0} (r : Result A BlobErr) → IfErr (answer_of r) (IsCause ⊥ ⊤ (λ name. ⊥))
+answer_cause (Ok a) = tt
+answer_cause (Err Failed) = tt
+answer_cause (Err Memory) = tt
+
+hive_fault : (e : BlobErr) → hive_err_of e ≡ HiveFault → e ≡ Failed
+hive_fault Failed is = refl
+hive_fault Memory is = cc
+
+pub answer_counts : {A : Type 0} (before now : ℕ) (r : Result A BlobErr) → CountsFault before now (IsErrOf r Failed) → CountsFault before now (IsErrOf (answer_of r) HiveFault)
+answer_counts before now (Ok a) counts = counts_as before now _ _ counts (λ failed. let no : ⊥ = cc in absurd no) (λ failed. let no : ⊥ = cc in absurd no)
+answer_counts before now (Err e) counts = counts_as before now _ _ counts
+    (λ failed. let same : e ≡ Failed = cc in ap Err (ap hive_err_of same))
+    (λ failed. let same : hive_err_of e ≡ HiveFault = cc in ap Err (hive_fault e same))
 
 pub run_some : (calls : List Call) (old new : Option Area) → HasRun calls old new → HasRunSome calls old new
 run_some calls None new ran = tt
@@ -32,6 +58,12 @@ pub one_some : (call : Call) (old new : Option Area) (result : Result Unit BlobE
 one_some call old new (Ok u) after = run_some (call ∷ []) old new (one_run call old new after)
 one_some call old new (Err Memory) after = kept_some (call ∷ []) old new after
 one_some call old new (Err Failed) after = ⊎_elim (kept_some (call ∷ []) old new) (λ made. run_some (call ∷ []) old new (one_run call old new made)) after
+
+-- what a put answered, as the job tells it
+pub put_one : (call : Call) (old new : Option Area) (r : Result Unit BlobErr) → IsAfter (after_call call) old new r → HasPut (call ∷ []) old new (answer_of r)
+put_one call old new (Ok u) after = one_run call old new after
+put_one call old new (Err Failed) after = (one_some call old new (Err Failed) after, tt)
+put_one call old new (Err Memory) after = (one_some call old new (Err Memory) after, tt)
 
 pub run_then : (xs ys : List Call) (old mid new : Option Area) → HasRun xs old mid → HasRun ys mid new → HasRun (xs ++ ys) old new
 run_then xs ys None mid new first second = second ∙ ap (option_map (after_calls ys)) first

@@ -1,35 +1,42 @@
 -- How a job ends.
-use Rattle.std.proofs.Common.{◌≡◌, ◌-◌, ℕ, List, [], ◌∷◌, length, Bool, true, false, Option, Some, None, Ok, Err, IfSome, IsSome, inl, inr, refl, sym, ◌∙◌, subst, arith}
+use Rattle.std.proofs.Common.{◌≡◌, ◌-◌, ℕ, List, length, Bool, true, false, Option, Some, None, Result, Ok, Err, IfSome, IsSome, ◌⊎◌, inl, inr, refl, sym, ◌∙◌, ap, subst, arith}
 use Rattle.std.specs.FinMap.{get}
 use Rattle.std.specs.List.{Contains, slice_get}
 use Rattle.std.specs.Option.{is_some}
+use Rattle.std.specs.Prelude.{IsErrOf, ⊤}
 use Rattle.blob_store.specs.Area.{Area}
+use Rattle.blob_store.specs.Seen.{IsSure, Seen}
+use Rattle.blob_store.specs.declared.call.Call.{Call}
+use Rattle.pkg_meta.specs.Catalog.{Catalog}
 use Rattle.pkg_meta.specs.declared.commit.Commit.{Commit}
-use Rattle.catalog_doc.specs.Names.{leaf_name}
 use Rattle.catalog_doc.specs.declared.row.Row.{Row}
-use Rattle.catalog_core.specs.Leaves.{AreCommitsAt, HasNoLeaf, HaveValues, HoldsLeaves}
-use Rattle.catalog_core.specs.Reads.{IfDamaged as IfReadDamaged, IsRead}
-use Rattle.catalog_core.specs.Verdicts.{ForCatalogsOf}
-use Rattle.catalog_core.specs.declared.error.ReadErr.{ReadErr}
-use Rattle.catalog_core.specs.declared.error.ReadErr.TheVariants as reading
+use Rattle.catalog_items.specs.Leaves.{IsNoLeafOf}
+use Rattle.catalog_opening.specs.Errors.{IfDamagedBy}
+use Rattle.catalog_core.specs.Framing.{StaysOpen}
+use Rattle.catalog_core.specs.Opened.{IsUnsettled, Opened}
+use Rattle.catalog_items.specs.Reads.{IsRead}
+use Rattle.catalog_opening.specs.declared.error.ReadErr.{ReadErr}
 use Rattle.cursor_doc.specs.Cursor.{cursor_name}
-use Rattle.fold_core.specs.Docs.{Makes, docs_of}
+use Rattle.fold_core.specs.Docs.{Makes, bytes_of, docs_of}
 use Rattle.fold_core.specs.Entries.{Keeps}
 use Rattle.fold_core.specs.Items.{commits_of}
 use Rattle.fold_core.specs.Laws.{AreOfEntries}
 use Rattle.pkg_meta.specs.declared.entry.Entry.{Entry}
-use Rattle.job_round.specs.Errors.{IsCause, catalog_err_of}
+use Rattle.job_round.specs.Errors.{IfDamaged, IsCause, catalog_err_of}
 use Rattle.job_round.specs.Keys.{keys_of}
-use Rattle.job_round.specs.Puts.{all_puts, bytes_in, HasPut, HasPutSome, HasRunSome, HaveAllBytes, IsLost}
-use Rattle.job_round.specs.Round.{Ended, ForWhole, IsMissing, round_puts}
+use Rattle.job_round.specs.Puts.{all_puts, HasPut, HaveAllBytes, IsMissing, PutsInto, Scene}
+use Rattle.job_round.specs.Round.{Ended, ForOpen, round_puts}
 use Rattle.job_round.specs.declared.error.RoundErr.{RoundErr}
-use Rattle.job_round.specs.declared.error.RoundErr.TheVariants.{Unsupported}
+use Rattle.job_round.specs.declared.error.RoundErr.TheVariants.{CatalogFault, HiveFault, Damaged, Unsupported, Memory}
 use Rattle.job_round.specs.declared.error.RoundOut.TheVariants.{Done, Idle}
+use Rattle.job_round.proofs.Bodies.{all_there}
+use Rattle.catalog_core.proofs.Frames.{stays_as, stays_iff}
 use Rattle.job_round.proofs.Runs.{kept_some}
-use Rattle.job_round.proofs.Steps.{cause_of}
-use Rattle.job_round.proofs.Tops.{done_of, failed, for_all, for_weaker, missing_of, read_cause, read_sound, read_whole, some_of, sound_of}
+use Rattle.job_round.proofs.Stays.{stays_then}
+use Rattle.job_round.proofs.Steps.{cause_as, missing_back, never, stopped, well}
+use Rattle.job_round.proofs.Tops.{last_is, missing_or, no_last, not_damaged, puts_are}
 
-cursor_there : (o : Option Area) (there : Bool) → there ≡ true → IfSome o (λ a. there ≡ is_some (get a cursor_name)) → IfSome o (λ a. IsSome (get a cursor_name))
+pub cursor_there : (o : Option Area) (there : Bool) → there ≡ true → IfSome o (λ a. there ≡ is_some (get a cursor_name)) → IfSome o (λ a. IsSome (get a cursor_name))
 cursor_there None there yes_there found = tt
 cursor_there (Some a) there yes_there found = sym found ∙ yes_there
 
@@ -41,100 +48,97 @@ pub cursor_absent : (o : Option Area) (there : Bool) → there ≡ false → IfS
 cursor_absent None there none found = tt
 cursor_absent (Some a) there none found = is_none (get a cursor_name) (sym found ∙ none)
 
-damaged_as : (e : ReadErr) (P Q : List ℕ → Type 0) → ((name : List ℕ) → P name → Q name) → IfReadDamaged e P → IfReadDamaged e Q
-damaged_as (reading.Damaged name) P Q to h = to name h
-damaged_as reading.Fault P Q to h = tt
-damaged_as reading.Memory P Q to h = tt
+-- the catalog wasn't asked
+pub early_stays : {A B : Type 0} (o : Opened B) (s : Seen) → IsSure s → (e : RoundErr) (r : Result A RoundErr) → r ≡ Err e → IsCause ⊥ ⊤ (λ name. ⊥) e → StaysOpen o o s s (IsErrOf r CatalogFault)
+early_stays o s sure e r is cause = stays_as o s _ sure (λ failed. let same : e ≡ CatalogFault = cc in subst (λ (x : RoundErr). IsCause ⊥ ⊤ (λ name. ⊥) x) same cause)
 
-no_commits : (m : Area) (base : List ℕ) (rows : List Row) (commits : List Commit) → slice_get commits (length commits - 1) ≡ None → AreCommitsAt m base rows commits → rows ≡ []
-no_commits m base [] commits none are = refl
-no_commits m base (row ∷ rows) [] none are = absurd are
-no_commits m base (row ∷ rows) (c ∷ cs) none are = absurd (last_there c cs none)
-  where
-    there : (d : Commit) (ds : List Commit) → slice_get (d ∷ ds) (length ds) ≡ None → ⊥
-    there d [] e = cc
-    there d (x ∷ ds) e = there x ds e
+-- behind a call that went well
+pub stays_behind : {A B X : Type 0} (o mid n : Opened B) (s t u : Seen) (F : Type 0) → StaysOpen o mid s t F → (F → ⊥) → (e : RoundErr) (r : Result A RoundErr) → r ≡ Err e
+    → StaysOpen mid n t u (IsErrOf (stopped X e) CatalogFault) → StaysOpen o n s u (IsErrOf r CatalogFault)
+stays_behind o mid n s t u F first quiet e r is second = stays_then o mid n s t u F _ first quiet
+    (stays_iff mid n t u _ _ second (λ failed. let same : e ≡ CatalogFault = cc in is ∙ ap Err same) (λ failed. let same : e ≡ CatalogFault = cc in ap Err same))
 
-    last_there : (d : Commit) (ds : List Commit) → slice_get (d ∷ ds) (length (d ∷ ds) - 1) ≡ None → ⊥
-    last_there d ds e = let same : length (d ∷ ds) - 1 ≡ length ds = omega arith in there d ds (subst (λ (n : ℕ). slice_get (d ∷ ds) n ≡ None) same e)
+pub stays_done : {A B : Type 0} (o mid n : Opened B) (s t u : Seen) (F : Type 0) → StaysOpen o mid s t F → (F → ⊥) → (x : A) → StaysOpen mid n t u (IsErrOf well CatalogFault)
+    → StaysOpen o n s u (IsErrOf (Ok x) CatalogFault)
+stays_done o mid n s t u F first quiet x second = stays_then o mid n s t u F _ first quiet
+    (stays_iff mid n t u _ _ second (λ failed. absurd (never tt CatalogFault failed)) (λ failed. absurd (never x CatalogFault failed)))
 
-module _ (keeps : Keeps) (makes : Makes) (base : List ℕ) (rows : List Row) (held old new : Option Area) (A M : Type 0) where
-  -- before anything was read
-  pub stopped_early : (e : RoundErr) → IsCause ⊥ M (λ name. ⊥) e → new ≡ old → Ended keeps makes base rows held old new A M (Err e)
-  stopped_early e cause same = inr (record {
-    cause = cause_of ⊥ M A M (λ name. ⊥) (IsMissing held base rows) e (λ no. absurd no) (λ h. h) (λ name no. absurd no) cause;
-    sound = for_all held base rows (λ cs. IsCause A M (λ name. ⊥) e) (λ cs. cause_of ⊥ M A M (λ name. ⊥) (λ name. ⊥) e (λ no. absurd no) (λ h. h) (λ name no. no) cause);
-    some = for_all held base rows (λ cs. HasRunSome (round_puts keeps makes base cs) old new) (λ cs. kept_some (round_puts keeps makes base cs) old new same);
+sound_early : (e : RoundErr) → IsCause ⊥ ⊤ (λ name. ⊥) e → IfDamaged e (λ name. ⊥)
+sound_early CatalogFault cause = tt
+sound_early HiveFault cause = tt
+sound_early (Damaged name) cause = cause
+sound_early Unsupported cause = tt
+sound_early Memory cause = tt
+
+module _ {B : Type 0} (keeps : Keeps) (makes : Makes) (a b : Scene B) where
+  -- it stopped before any put
+  pub stopped_early : (e : RoundErr) → IsCause ⊤ ⊤ (IsMissing a.store.held) e → ForOpen a (λ cs. IfDamaged e (λ name. ⊥)) → b.hive.held ≡ a.hive.held → Ended keeps makes a b (Err e)
+  stopped_early e cause sound same = inr (record {
+    cause = cause;
+    sound = sound;
+    some = λ cs is_open. kept_some (round_puts keeps makes a.catalog.base cs) a.hive.held b.hive.held same;
     fresh = inl same;
   })
 
-  pub not_begun : (there : Bool) → there ≡ true → IfSome old (λ a. there ≡ is_some (get a cursor_name)) → new ≡ old → Ended keeps makes base rows held old new A M (Err Unsupported)
-  not_begun there yes_there found same = inl (refl, (same, cursor_there old there yes_there found))
+  pub not_looked : (e : RoundErr) → IsCause ⊥ ⊤ (λ name. ⊥) e → b.hive.held ≡ a.hive.held → Ended keeps makes a b (Err e)
+  not_looked e cause same = stopped_early e (cause_as ⊥ ⊤ ⊤ ⊤ (λ name. ⊥) (IsMissing a.store.held) e (λ no. absurd no) (λ h. h) (λ name no. absurd no) cause) (λ cs is_open. sound_early e cause) same
 
-  -- the catalog wasn't read
-  pub not_read : (e : ReadErr) (answer : RoundErr) → answer ≡ catalog_err_of e → new ≡ old
-      → (failed e ≡ failed reading.Fault → A)
-      → IfReadDamaged e (λ name. (row : Row) × Contains rows row × (name ≡ leaf_name row.number row.place) × IfSome held (λ m. HasNoLeaf m base row))
-      → ForCatalogsOf rows (λ cs. HaveValues (commits_of cs) → IfSome held (λ m. HoldsLeaves m base cs → IsRead (commits_of cs) (Err e)))
-      → Ended keeps makes base rows held old new A M (Err answer)
-  not_read e answer is same fault damaged exact =
-      subst (λ (x : RoundErr). Ended keeps makes base rows held old new A M (Err x)) (sym is) (inr (record {
-        cause = read_cause A M e (IsMissing held base rows) fault
-            (damaged_as e (λ name. (row : Row) × Contains rows row × (name ≡ leaf_name row.number row.place) × IfSome held (λ m. HasNoLeaf m base row)) (IsMissing held base rows) (λ name lost. inl lost) damaged);
-        sound = for_weaker held base rows (λ cs. IsRead (commits_of cs) (Err e)) (λ cs. IsCause A M (λ name. ⊥) (catalog_err_of e))
-            (λ cs read. read_sound A M e cs fault read) (read_whole held base rows (Err e) exact);
-        some = for_all held base rows (λ cs. HasRunSome (round_puts keeps makes base cs) old new) (λ cs. kept_some (round_puts keeps makes base cs) old new same);
-        fresh = inl same;
-      }))
+  -- the commits weren't read
+  pub not_read : (error : ReadErr) (answer : RoundErr) → answer ≡ catalog_err_of error → (F : Type 0) → StaysOpen a.catalog b.catalog a.store b.store F
+      → ((m now : Area) → a.store.held ≡ Some m → b.store.held ≡ Some now
+      → IfDamagedBy error (λ name. IsUnsettled m a.catalog name ⊎ ((row : Row) × Contains b.catalog.kept.rows row × IsNoLeafOf now b.catalog.base row name)))
+      → ForOpen a (λ cs. IsRead (commits_of cs) (Err error)) → b.hive.held ≡ a.hive.held → Ended keeps makes a b (Err answer)
+  not_read error answer is F stays damaged reads same = subst (λ (e : RoundErr). Ended keeps makes a b (Err e)) (sym is)
+      (stopped_early (catalog_err_of error)
+      (missing_or a.store.held b.store.held stays.mends.area a.catalog (λ now name. (row : Row) × Contains b.catalog.kept.rows row × IsNoLeafOf now b.catalog.base row name) error
+      (λ now name there. inl (there.0.number, there.0.place, there.2.0)) damaged)
+      (λ cs is_open. not_damaged (commits_of cs) error (reads cs is_open)) same)
+
+  pub built_already : (there : Bool) → there ≡ true → IfSome a.hive.held (λ m. there ≡ is_some (get m cursor_name)) → b.hive.held ≡ a.hive.held → Ended keeps makes a b (Err Unsupported)
+  built_already there yes_there found same = inl (refl, same, cursor_there a.hive.held there yes_there found)
 
   -- there were no commits
-  pub idles : (there : Bool) (commits : List Commit) → there ≡ false → IfSome old (λ a. there ≡ is_some (get a cursor_name)) → new ≡ old
-      → slice_get commits (length commits - 1) ≡ None → IfSome held (λ m. AreCommitsAt m base rows commits) → Ended keeps makes base rows held old new A M (Ok (Idle 0))
-  idles there commits absent found same none are = (cursor_absent old there absent found, (refl, rows_none held are, same))
-    where
-      rows_none : (h : Option Area) → IfSome h (λ m. AreCommitsAt m base rows commits) → IfSome h (λ m. rows ≡ [])
-      rows_none None are = tt
-      rows_none (Some m) are = no_commits m base rows commits none are
+  pub idles : (there : Bool) (commits : List Commit) → there ≡ false → IfSome a.hive.held (λ m. there ≡ is_some (get m cursor_name)) → b.hive.held ≡ a.hive.held
+      → slice_get commits (length commits - 1) ≡ None → ForOpen a (λ cs. commits ≡ commits_of cs) → Ended keeps makes a b (Ok (Idle 0))
+  idles there commits absent found same none read = (cursor_absent a.hive.held there absent found, refl, (λ cs is_open. no_last cs commits (read cs is_open) none), same)
 
-  module _ (staged : (base key : List ℕ) (number stamp : ℕ) (es : List Entry) → AreOfEntries es (makes base key number stamp es))
-      (commits : List Commit) (last : Commit)
-      (exact : ForCatalogsOf rows (λ cs. HaveValues (commits_of cs) → IfSome held (λ m. HoldsLeaves m base cs → IsRead (commits_of cs) (Ok commits))))
-      (is : Some last ≡ slice_get commits (length commits - 1))
-      (h mid : Option Area) (b : List ℕ) (h_is : h ≡ held) (b_is : b ≡ base) (mid_is : mid ≡ old) where
-    read : ForWhole held base rows (λ cs. commits ≡ commits_of cs)
-    read = read_whole held base rows (Ok commits) exact
+-- the commits were read, between a and mid
+module _ {B F : Type 0} (keeps : Keeps) (makes : Makes) (a mid b : Scene B) (staged : (base key : List ℕ) (number stamp : ℕ) (es : List Entry) → AreOfEntries es (makes base key number stamp es))
+    (there : Bool) (absent : there ≡ false) (found : IfSome a.hive.held (λ m. there ≡ is_some (get m cursor_name))) (same : mid.hive.held ≡ a.hive.held)
+    (stays : StaysOpen a.catalog mid.catalog a.store mid.store F)
+    (commits : List Commit) (last : Commit) (read : ForOpen a (λ cs. commits ≡ commits_of cs)) (is : Some last ≡ slice_get commits (length commits - 1)) where
+  abbrev calls : Catalog → List Call
+  calls cs = all_puts keeps makes mid.catalog.base commits (bytes_of cs) last.number last.stamp
 
-    -- it stopped in the puts
-    pub stopped_putting : (there : Bool) → there ≡ false → IfSome old (λ a. there ≡ is_some (get a cursor_name)) → (A₁ M₁ : Type 0) (e : RoundErr) → (A₁ → A) → (M₁ → M)
-        → IsCause A₁ M₁ (IsLost h (λ m. HaveAllBytes (docs_of keeps makes b commits) (bytes_in m) (keys_of commits))) e
-        → HasPutSome h (λ m. all_puts keeps makes b commits (bytes_in m) last.number last.stamp) mid new
-        → Ended keeps makes base rows held old new A M (Err e)
-    stopped_putting there absent found A₁ M₁ e first second cause some =
-        let lost : IsCause A₁ M₁ (IsLost held (λ m. HaveAllBytes (docs_of keeps makes base commits) (bytes_in m) (keys_of commits))) e =
-        subst (λ (x : Option Area). IsCause A₁ M₁ (IsLost x (λ m. HaveAllBytes (docs_of keeps makes base commits) (bytes_in m) (keys_of commits))) e) h_is
-        (subst (λ (x : List ℕ). IsCause A₁ M₁ (IsLost h (λ m. HaveAllBytes (docs_of keeps makes x commits) (bytes_in m) (keys_of commits))) e) b_is cause) in
-        let put : HasPutSome held (λ m. all_puts keeps makes base commits (bytes_in m) last.number last.stamp) old new =
-        subst (λ (x : Option Area). HasPutSome x (λ m. all_puts keeps makes base commits (bytes_in m) last.number last.stamp) old new) h_is
-        (subst (λ (x : List ℕ). HasPutSome h (λ m. all_puts keeps makes x commits (bytes_in m) last.number last.stamp) old new) b_is
-        (subst (λ (x : Option Area). HasPutSome h (λ m. all_puts keeps makes b commits (bytes_in m) last.number last.stamp) x new) mid_is some)) in
-        inr (record {
-          cause = cause_of A₁ M₁ A M (IsLost held (λ m. HaveAllBytes (docs_of keeps makes base commits) (bytes_in m) (keys_of commits))) (IsMissing held base rows) e first second
-              (λ name. missing_of held base rows (λ m. HaveAllBytes (docs_of keeps makes base commits) (bytes_in m) (keys_of commits)) name) lost;
-          sound = sound_of keeps makes staged held base rows commits last read is A M e
-              (cause_of A₁ M₁ A M (IsLost held (λ m. HaveAllBytes (docs_of keeps makes base commits) (bytes_in m) (keys_of commits)))
-              (IsLost held (λ m. HaveAllBytes (docs_of keeps makes base commits) (bytes_in m) (keys_of commits))) e first second (λ name l. l) lost);
-          some = some_of keeps makes staged held base rows commits last read is old new put;
-          fresh = inr (cursor_absent old there absent found);
-        })
+  abbrev ready : Catalog → Type 0
+  ready cs = HaveAllBytes (docs_of keeps makes mid.catalog.base commits) (bytes_of cs) (keys_of commits)
 
-    -- all was put
-    pub finished : (there : Bool) → there ≡ false → IfSome old (λ a. there ≡ is_some (get a cursor_name))
-        → HasPut h (λ m. all_puts keeps makes b commits (bytes_in m) last.number last.stamp) mid new
-        → Ended keeps makes base rows held old new A M (Ok (Done last.number))
-    finished there absent found all = (
-      cursor_absent old there absent found,
-      done_of keeps makes staged held base rows commits last read is old new
-          (subst (λ (x : Option Area). HasPut x (λ m. all_puts keeps makes base commits (bytes_in m) last.number last.stamp) old new) h_is
-          (subst (λ (x : List ℕ). HasPut h (λ m. all_puts keeps makes x commits (bytes_in m) last.number last.stamp) old new) b_is
-          (subst (λ (x : Option Area). HasPut h (λ m. all_puts keeps makes b commits (bytes_in m) last.number last.stamp) x new) mid_is all))),
-    )
+  module _ {X : Type 0} (r : Result X RoundErr) (put : PutsInto calls ready mid b r) where
+    put_of : ForOpen a (λ cs. HasPut (round_puts keeps makes a.catalog.base cs) a.hive.held b.hive.held r)
+    put_of cs is_open =
+        let at = stays.open_for cs is_open in
+        let follows = is_open.lawful.lawful.commits in
+        let there_all : ready cs = subst (λ (l : List Commit). HaveAllBytes (docs_of keeps makes mid.catalog.base l) (bytes_of cs) (keys_of l)) (sym (read cs is_open))
+        (all_there cs keeps makes mid.catalog.base (λ key. staged mid.catalog.base key) follows (keys_of (commits_of cs))) in
+        subst (λ (o : Option Area). HasPut (round_puts keeps makes a.catalog.base cs) o b.hive.held r) same
+        (subst (λ (base : List ℕ). HasPut (round_puts keeps makes base cs) mid.hive.held b.hive.held r) stays.base
+        (subst (λ (l : List Call). HasPut l mid.hive.held b.hive.held r) (puts_are keeps makes mid.catalog.base cs commits last follows (read cs is_open) is)
+        (put.puts cs at.open_for there_all)))
+
+  -- all was put
+  pub finished : {X : Type 0} (x : X) → PutsInto calls ready mid b (Ok x) → Ended keeps makes a b (Ok (Done last.number))
+  finished x put = (
+    cursor_absent a.hive.held there absent found,
+    λ cs is_open.
+        let ends = last_is cs last is_open.lawful.lawful.commits (is ∙ ap (λ (l : List Commit). slice_get l (length l - 1)) (read cs is_open)) in
+        (ends.0, omega (arith, ends.0, ends.2), put_of (Ok x) put cs is_open),
+  )
+
+  -- it stopped in the puts
+  pub stopped_putting : {X : Type 0} (e : RoundErr) → PutsInto calls ready mid b (stopped X e) → Ended keeps makes a b (Err e)
+  stopped_putting {X} e put = inr (record {
+    cause = cause_as ⊤ ⊤ ⊤ ⊤ (IsMissing mid.store.held) (IsMissing a.store.held) e (λ h. h) (λ h. h) (missing_back a.store.held mid.store.held stays.mends.area) put.cause;
+    sound = λ cs is_open. (put_of (stopped X e) put cs is_open).1;
+    some = λ cs is_open. (put_of (stopped X e) put cs is_open).0;
+    fresh = inr (cursor_absent a.hive.held there absent found);
+  })

@@ -2,8 +2,8 @@
 use Rattle.std.specs.Prelude.{ℕ, List, ⊤}
 use Rattle.blob_store.specs.declared.error.BlobErr.{BlobErr}
 use Rattle.blob_store.specs.declared.error.BlobErr.TheVariants as blob
-use Rattle.catalog_core.specs.declared.error.ReadErr.{ReadErr}
-use Rattle.catalog_core.specs.declared.error.ReadErr.TheVariants as reading
+use Rattle.catalog_opening.specs.declared.error.ReadErr.{ReadErr}
+use Rattle.catalog_opening.specs.declared.error.ReadErr.TheVariants as reading
 use Rattle.job_round.specs.declared.error.RoundErr.{RoundErr}
 use Rattle.job_round.specs.declared.error.RoundErr.TheVariants.{CatalogFault, HiveFault, Damaged, Unsupported, Memory}
 

@@ -1,29 +1,32 @@
 -- The puts of a job: key by key the documents of the id, its index last, and then the cursor.
-use Rattle.std.specs.Prelude.{◌≡◌, ℕ, List, [], ◌∷◌, ◌++◌, flat_map, Bool, Option, Some, None, IfSome, IsSome, option_map}
+use Rattle.std.specs.Prelude.{◌≡◌, ◌⊎◌, ℕ, List, [], ◌∷◌, ◌++◌, flat_map, Bool, Option, Some, None, IfErr, IfSome, IsErrOf, IsSome, option_map, Result, ⊤}
+use Rattle.std.specs.declared.result.Result.TheVariants.{Ok, Err}
 use Rattle.std.specs.FinMap.{get}
 use Rattle.std.specs.List.{Contains}
+use Rattle.feed_base.specs.Counts.{CountsFault}
 use Rattle.blob_store.specs.Area.{Area}
 use Rattle.blob_store.specs.Runs.{after_calls, IsAfterSome}
+use Rattle.blob_store.specs.Seen.{Seen}
 use Rattle.blob_store.specs.declared.call.Call.{Call}
 use Rattle.blob_store.specs.declared.call.Call.TheVariants.{Put}
+use Rattle.pkg_meta.specs.Catalog.{Catalog}
 use Rattle.pkg_meta.specs.declared.commit.Commit.{Commit}
-use Rattle.catalog_doc.specs.Names.{staged_name}
+use Rattle.catalog_doc.specs.Names.{index_name, leaf_name, page_name, staged_name}
+use Rattle.catalog_core.specs.Framing.{StaysOpen}
+use Rattle.catalog_core.specs.Opened.{IsOpenFor, Opened}
 use Rattle.cursor_doc.specs.Cursor.{cursor_name, cursor_text}
 use Rattle.fold_core.specs.Docs.{Makes, docs_of}
 use Rattle.fold_core.specs.Entries.{Keeps}
 use Rattle.fold_core.specs.declared.doc.Body.{Body}
-use Rattle.fold_core.specs.declared.doc.Body.TheVariants.{Made, Staged as FromPublish}
 use Rattle.fold_core.specs.declared.doc.Doc.{Doc}
+use Rattle.job_round.specs.Errors.{IfDamaged, IsCause}
 use Rattle.job_round.specs.Keys.{keys_of}
+use Rattle.job_round.specs.declared.error.RoundErr.{RoundErr}
+use Rattle.job_round.specs.declared.error.RoundErr.TheVariants.{CatalogFault, HiveFault}
 
 -- the bytes of a document's body, where there are such
 abbrev pub Bodies : Type 0
 Bodies = Body → Option (List ℕ)
-
--- as a catalog's area holds them
-abbrev pub bytes_in : Area → Bodies
-bytes_in m (Made bytes) = Some bytes
-bytes_in m (FromPublish number place nuspec) = get m (staged_name number place nuspec)
 
 -- the put of a document, none where it has no bytes
 abbrev pub put_of : List ℕ → Option (List ℕ) → List Call
@@ -64,13 +67,10 @@ HasRun calls old new = new ≡ option_map (after_calls calls) old
 abbrev pub HasRunSome : List Call → Option Area → Option Area → Type 0
 HasRunSome calls old new = IfSome old (λ a. (left : Area) × (new ≡ Some left) × IsAfterSome calls a left)
 
--- the same of calls that rest on what the catalog's area holds, where that is told
-abbrev pub HasPut : Option Area → (Area → List Call) → Option Area → Option Area → Type 0
-HasPut source puts old new = IfSome source (λ m. HasRun (puts m) old new)
-
--- or some of them, from the first
-abbrev pub HasPutSome : Option Area → (Area → List Call) → Option Area → Option Area → Type 0
-HasPutSome source puts old new = IfSome source (λ m. HasRunSome (puts m) old new)
+-- the calls were made; some of them, from the first, where the job stopped, and then nothing is told as damaged
+abbrev pub HasPut : {A : Type 0} → List Call → Option Area → Option Area → Result A RoundErr → Type 0
+HasPut calls old new (Ok a) = HasRun calls old new
+HasPut calls old new (Err error) = HasRunSome calls old new × IfDamaged error (λ name. ⊥)
 
 -- each of the documents has bytes
 abbrev pub HaveBytes : Bodies → List Doc → Type 0
@@ -84,6 +84,31 @@ HaveAllBytes {X} docs bytes ids = (id : X) → Contains ids id → HaveBytes byt
 abbrev pub IsStagedName : List ℕ → Type 0
 IsStagedName name = (number place : ℕ) × (nuspec : Bool) × (name ≡ staged_name number place nuspec)
 
--- the name of a publish's file that the area doesn't hold, so that not all bytes are there
-abbrev pub IsLost : Option Area → (Area → Type 0) → List ℕ → Type 0
-IsLost source AreThere name = IsStagedName name × IfSome source (λ m. (get m name ≡ None) × (AreThere m → ⊥))
+-- the index or a page has this name
+abbrev pub IsPageName : List ℕ → Type 0
+IsPageName name = (name ≡ index_name) ⊎ ((k : ℕ) × (name ≡ page_name k))
+
+-- a leaf has this name
+abbrev pub IsLeafName : List ℕ → Type 0
+IsLeafName name = (number : ℕ) × (place : ℕ) × (name ≡ leaf_name number place)
+
+-- the name of the index, of a page or of a leaf; or that of a publish's file, which the area doesn't hold
+abbrev pub IsMissing : Option Area → List ℕ → Type 0
+IsMissing held name = (m : Area) → held ≡ Some m → IsPageName name ⊎ (IsLeafName name ⊎ (IsStagedName name × (get m name ≡ None)))
+
+-- what is told at a moment of a job: the open catalog, its store and the hive's
+pub record Scene (B : Type 0) : Type 1 where
+  pub catalog : Opened B
+  pub store : Seen
+  pub hive : Seen
+
+abbrev pub scene : {B : Type 0} → Opened B → Seen → Seen → Scene B
+scene catalog store hive = record { catalog = catalog; store = store; hive = hive }
+
+-- What a call of a job puts into the hive's area, by the catalog that is open, where that has what ready says. The catalog
+-- stays open, each count of faults rises exactly where a call failed, and what is told as damaged is missing.
+pub record PutsInto {A B : Type 0} (calls : Catalog → List Call) (ready : Catalog → Type 0) (before after : Scene B) (result : Result A RoundErr) : Type 0 where
+  pub stays : StaysOpen before.catalog after.catalog before.store after.store (IsErrOf result CatalogFault)
+  pub counts : CountsFault before.hive.faults after.hive.faults (IsErrOf result HiveFault)
+  pub cause : IfErr result (IsCause ⊤ ⊤ (IsMissing before.store.held))
+  pub puts : (cs : Catalog) → IsOpenFor before.catalog before.store cs → ready cs → HasPut (calls cs) before.hive.held after.hive.held result

@@ -2,7 +2,6 @@
 use Rattle.std.specs.Prelude.{◌≡◌, ◌⊎◌, ◌<◌, ℕ, List, [], length, Option, Some, None, Result, IfSome, IsSome, if◌then◌else◌, ⊤}
 use Rattle.std.specs.declared.result.Result.TheVariants.{Ok, Err}
 use Rattle.std.specs.FinMap.{get}
-use Rattle.std.specs.List.{Contains}
 use Rattle.std.specs.Option.{option_and_then, option_or}
 use Rattle.std.specs.Str.{bytes_eq}
 use Rattle.blob_store.specs.Area.{Area}
@@ -10,18 +9,13 @@ use Rattle.blob_store.specs.Runs.{after_calls}
 use Rattle.blob_store.specs.declared.call.Call.{Call}
 use Rattle.pkg_meta.specs.Catalog.{Catalog}
 use Rattle.pkg_meta.specs.Lawful.{newest}
-use Rattle.catalog_doc.specs.CatDocs.{all_rows}
-use Rattle.catalog_doc.specs.Names.{leaf_name}
-use Rattle.catalog_doc.specs.declared.row.Row.{Row}
-use Rattle.catalog_core.specs.Leaves.{HasNoLeaf}
-use Rattle.catalog_core.specs.Plain.{IsPlain}
-use Rattle.catalog_core.specs.Whole.{HaveSizes, IsWhole}
+use Rattle.catalog_core.specs.Opened.{IsOpenFor}
 use Rattle.cursor_doc.specs.Cursor.{cursor_name, cursor_text}
 use Rattle.fold_core.specs.Docs.{Makes, bytes_of, doc_at, owner}
 use Rattle.fold_core.specs.Entries.{Keeps}
 use Rattle.fold_core.specs.Items.{commits_of}
-use Rattle.job_round.specs.Errors.{IsCause}
-use Rattle.job_round.specs.Puts.{all_puts, HasRun, HasRunSome, IsStagedName}
+use Rattle.job_round.specs.Errors.{IfDamaged, IsCause}
+use Rattle.job_round.specs.Puts.{all_puts, HasRun, HasRunSome, IsMissing, Scene}
 use Rattle.job_round.specs.declared.error.RoundErr.{RoundErr}
 use Rattle.job_round.specs.declared.error.RoundErr.TheVariants.{Unsupported}
 use Rattle.job_round.specs.declared.error.RoundOut.{RoundOut}
@@ -36,15 +30,6 @@ IfDone (Idle n) P = ⊤
 abbrev pub IfIdle : RoundOut → (ℕ → Type 0) → Type 0
 IfIdle (Done n) P = ⊤
 IfIdle (Idle n) P = P n
-
--- what holds of each catalog of bare publishes that has these rows, where the area holds it whole
-abbrev pub ForWhole : Option Area → List ℕ → List Row → (Catalog → Type 0) → Type 0
-ForWhole held base rows P = (cs : Catalog) → IsPlain cs → all_rows cs ≡ rows → IfSome held (λ m. IsWhole m base cs → HaveSizes cs → P cs)
-
--- the name of a leaf of these rows that the area doesn't hold as such, or of a publish's file that it doesn't hold
-abbrev pub IsMissing : Option Area → List ℕ → List Row → List ℕ → Type 0
-IsMissing held base rows name = ((row : Row) × Contains rows row × (name ≡ leaf_name row.number row.place) × IfSome held (λ m. HasNoLeaf m base row))
-    ⊎ (IsStagedName name × IfSome held (λ m. get m name ≡ None))
 
 module _ (keeps : Keeps) (makes : Makes) (base : List ℕ) (cs : Catalog) where
   -- the puts of all documents of the hive, and then of its cursor at the last commit
@@ -69,18 +54,23 @@ module _ (keeps : Keeps) (makes : Makes) (base : List ℕ) (cs : Catalog) where
   abbrev pub HasCursorLast : Area → Area → Type 0
   HasCursorLast before area = (get area cursor_name ≡ None) ⊎ (area ≡ after_calls round_puts before)
 
--- the job stopped for this reason, and for none that a whole catalog doesn't give, after some of the puts, and none where there was a cursor
-pub record HasStopped (keeps : Keeps) (makes : Makes) (base : List ℕ) (rows : List Row) (held old new : Option Area) (catalog_rose hive_rose : Type 0) (e : RoundErr) : Type 0 where
-  pub cause : IsCause catalog_rose hive_rose (IsMissing held base rows) e
-  pub sound : ForWhole held base rows (λ cs. IsCause catalog_rose hive_rose (λ name. ⊥) e)
-  pub some : ForWhole held base rows (λ cs. HasRunSome (round_puts keeps makes base cs) old new)
-  pub fresh : (new ≡ old) ⊎ IfSome old (λ a. get a cursor_name ≡ None)
+-- what holds of each catalog that is open
+abbrev pub ForOpen : {B : Type 0} → Scene B → (Catalog → Type 0) → Type 0
+ForOpen at P = (cs : Catalog) → IsOpenFor at.catalog at.store cs → P cs
 
--- what holds of the job's answer: the hive's area old and new, the catalog's held, and what is to hold where one of the two failed
-abbrev pub Ended : Keeps → Makes → List ℕ → List Row → (held old new : Option Area) → (catalog_rose hive_rose : Type 0) → Result RoundOut RoundErr → Type 0
-Ended keeps makes base rows held old new catalog_rose hive_rose (Ok (Done n)) =
-    IfSome old (λ a. get a cursor_name ≡ None) × ForWhole held base rows (λ cs. (n ≡ length cs) × (0 < n) × HasRun (round_puts keeps makes base cs) old new)
-Ended keeps makes base rows held old new catalog_rose hive_rose (Ok (Idle n)) =
-    IfSome old (λ a. get a cursor_name ≡ None) × ((n ≡ 0) × IfSome held (λ m. rows ≡ []) × (new ≡ old))
-Ended keeps makes base rows held old new catalog_rose hive_rose (Err e) =
-    ((e ≡ Unsupported) × ((new ≡ old) × IfSome old (λ a. IsSome (get a cursor_name)))) ⊎ HasStopped keeps makes base rows held old new catalog_rose hive_rose e
+module _ {B : Type 0} (keeps : Keeps) (makes : Makes) (before after : Scene B) where
+  -- the job stopped after some of the puts, and none where there was a cursor; what it tells as damaged is missing, and of an open catalog nothing is
+  pub record HasStopped (error : RoundErr) : Type 0 where
+    pub cause : IsCause ⊤ ⊤ (IsMissing before.store.held) error
+    pub sound : ForOpen before (λ cs. IfDamaged error (λ name. ⊥))
+    pub some : ForOpen before (λ cs. HasRunSome (round_puts keeps makes before.catalog.base cs) before.hive.held after.hive.held)
+    pub fresh : (after.hive.held ≡ before.hive.held) ⊎ IfSome before.hive.held (λ a. get a cursor_name ≡ None)
+
+  -- what holds of the job's answer
+  abbrev pub Ended : Result RoundOut RoundErr → Type 0
+  Ended (Ok (Done n)) = IfSome before.hive.held (λ a. get a cursor_name ≡ None)
+      × ForOpen before (λ cs. (n ≡ length cs) × (0 < n) × HasRun (round_puts keeps makes before.catalog.base cs) before.hive.held after.hive.held)
+  Ended (Ok (Idle n)) = IfSome before.hive.held (λ a. get a cursor_name ≡ None)
+      × (n ≡ 0) × ForOpen before (λ cs. cs ≡ []) × (after.hive.held ≡ before.hive.held)
+  Ended (Err error) =
+      ((error ≡ Unsupported) × (after.hive.held ≡ before.hive.held) × IfSome before.hive.held (λ a. IsSome (get a cursor_name))) ⊎ HasStopped error

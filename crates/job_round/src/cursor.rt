@@ -1,12 +1,12 @@
 // The cursor of the hive's area.
-ghost use Rattle.std.specs.Prelude.{◌≡◌, ◌≤◌, ◌∷◌, [], IfOk, IfErr, IfSome, OnOk};
+ghost use Rattle.std.specs.Prelude.{◌≡◌, ◌∷◌, [], IfOk, IfErr, IfSome, IsErrOf, ⊤};
 ghost use Rattle.std.specs.Option.{is_some};
 ghost use Rattle.std.specs.FinMap.{get};
-ghost use Rattle.feed_base.specs.Counts.{HasRisen};
+ghost use Rattle.feed_base.specs.Counts.{CountsFault};
 ghost use Rattle.blob_store.specs.declared.call.Call.TheVariants.{Put};
 ghost use Rattle.cursor_doc.specs.Cursor.{cursor_name, cursor_text};
 ghost use Rattle.job_round.specs.Errors.{IsCause};
-ghost use Rattle.job_round.specs.Puts.{HasRun, HasRunSome};
+ghost use Rattle.job_round.specs.Puts.{HasPut};
 
 use crate::error::{RoundErr, hive_err};
 use crate::puts::put;
@@ -18,9 +18,9 @@ use std::alloc::Global;
 /// Whether the area has a cursor.
 pub(crate) fn holds_cursor<B: Blobs>(alloc: Global, area: &mut B) -> Result<bool, RoundErr>
     ensures found { IfOk result (λ there. IfSome (B.seen area.old).held (λ a. there ≡ is_some (get a cursor_name))) }
-    ensures cause { IfErr result (IsCause ⊥ (HasRisen (B.seen area.old).faults (B.seen area.new).faults) (λ n. ⊥)) }
+    ensures cause { IfErr result (IsCause ⊥ ⊤ (λ n. ⊥)) }
     ensures same { (B.seen area.new).held ≡ (B.seen area.old).held }
-    ensures later { (B.seen area.old).faults ≤ (B.seen area.new).faults }
+    ensures counts { CountsFault (B.seen area.old).faults (B.seen area.new).faults (IsErrOf result RoundErr.HiveFault) }
 {
     match area.get(alloc, CURSOR_NAME) {
         Ok(found) => Ok(found.is_some()),
@@ -34,10 +34,9 @@ pub(crate) fn put_cursor<B: Blobs>(
     area: &mut B,
     commit: &Commit,
 ) -> Result<(), RoundErr>
-    ensures done { OnOk result (HasRun (Put cursor_name (cursor_text commit.now.number commit.now.stamp) ∷ []) (B.seen area.old).held (B.seen area.new).held) }
-    ensures some { HasRunSome (Put cursor_name (cursor_text commit.now.number commit.now.stamp) ∷ []) (B.seen area.old).held (B.seen area.new).held }
-    ensures cause { IfErr result (IsCause ⊥ (HasRisen (B.seen area.old).faults (B.seen area.new).faults) (λ n. ⊥)) }
-    ensures later { (B.seen area.old).faults ≤ (B.seen area.new).faults }
+    ensures puts { HasPut (Put cursor_name (cursor_text commit.now.number commit.now.stamp) ∷ []) (B.seen area.old).held (B.seen area.new).held result }
+    ensures cause { IfErr result (IsCause ⊥ ⊤ (λ n. ⊥)) }
+    ensures counts { CountsFault (B.seen area.old).faults (B.seen area.new).faults (IsErrOf result RoundErr.HiveFault) }
 {
     let mark = Mark {
         number: commit.number,

@@ -1,15 +1,18 @@
 // The job.
-ghost use Rattle.std.specs.Prelude.{◌≡◌, ◌≤◌, ◌<◌, ◌⊎◌, [], Some, None, length, IfErr, IfOk, IfSome, IsErrOf, IsSome, OnOk};
+ghost use Rattle.std.specs.Prelude.{◌≡◌, ◌<◌, [], Some, None, length, IfErr, IfOk, IfSome, IsErrOf, IsSome, List};
 ghost use Rattle.std.specs.FinMap as map;
 ghost use Rattle.std.specs.FinMap.{get};
-ghost use Rattle.feed_base.specs.Counts.{HasRisen};
+ghost use Rattle.feed_base.specs.Counts.{CountsFault, HasRisen};
 ghost use Rattle.blob_store.specs.Area.{Area};
+ghost use Rattle.pkg_meta.specs.declared.commit.Stored.{Stored};
+ghost use Rattle.catalog_core.specs.Framing.{StaysOpen};
+ghost use Rattle.catalog_core.specs.Opened.{IsOpenFor};
 ghost use Rattle.cursor_doc.specs.Cursor.{cursor_name};
-ghost use Rattle.fold_core.specs.Docs.{docs_of};
-ghost use Rattle.job_round.specs.Errors.{IfDamaged, IsCause};
+ghost use Rattle.fold_core.specs.Docs.{bytes_of, docs_of};
+ghost use Rattle.job_round.specs.Errors.{IfDamaged};
 ghost use Rattle.job_round.specs.Keys.{keys_of};
-ghost use Rattle.job_round.specs.Puts.{all_puts, bytes_in, HasPut, HasPutSome, HasRun, HasRunSome, HaveAllBytes, IsLost};
-ghost use Rattle.job_round.specs.Round.{Ended, ForWhole, HasCursorLast, IfDone, IfIdle, IsMissing, IsSettled, IsSettledOver, round_puts};
+ghost use Rattle.job_round.specs.Puts.{all_puts, HasRun, HasRunSome, HaveAllBytes, IsMissing, PutsInto, scene};
+ghost use Rattle.job_round.specs.Round.{Ended, HasCursorLast, IfDone, IfIdle, IsSettled, IsSettledOver, round_puts};
 
 use crate::cursor::{holds_cursor, put_cursor};
 use crate::error::{RoundErr, RoundOut, catalog_err};
@@ -29,12 +32,9 @@ fn put_all<H: Hive, B: Blobs>(
     commits: &[Commit],
     last: &Commit,
 ) -> Result<(), RoundErr>
-    ensures done { OnOk result (HasPut (B.seen catalog.old.area).held (λ m. all_puts H.keeps H.makes catalog.old.base commits.now (bytes_in m) last.now.number last.now.stamp) (B.seen area.old).held (B.seen area.new).held) }
-    ensures some { HasPutSome (B.seen catalog.old.area).held (λ m. all_puts H.keeps H.makes catalog.old.base commits.now (bytes_in m) last.now.number last.now.stamp) (B.seen area.old).held (B.seen area.new).held }
-    ensures cause { IfErr result (IsCause (HasRisen (B.seen catalog.old.area).faults (B.seen catalog.new.area).faults) (HasRisen (B.seen area.old).faults (B.seen area.new).faults)
-        (IsLost (B.seen catalog.old.area).held (λ m. HaveAllBytes (docs_of H.keeps H.makes catalog.old.base commits.now) (bytes_in m) (keys_of commits.now)))) }
-    ensures same { ((B.seen catalog.new.area).held ≡ (B.seen catalog.old.area).held) × (catalog.new.base ≡ catalog.old.base) × (catalog.new.rows ≡ catalog.old.rows) }
-    ensures later { ((B.seen catalog.old.area).faults ≤ (B.seen catalog.new.area).faults) × ((B.seen area.old).faults ≤ (B.seen area.new).faults) }
+    ensures { PutsInto (λ cs. all_puts H.keeps H.makes catalog.old.base commits.now (bytes_of cs) last.now.number last.now.stamp)
+        (λ cs. HaveAllBytes (docs_of H.keeps H.makes catalog.old.base commits.now) (bytes_of cs) (keys_of commits.now))
+        (scene catalog.old (B.seen catalog.old.area) (B.seen area.old)) (scene catalog.new (B.seen catalog.new.area) (B.seen area.new)) result }
 {
     let states = states_of::<H>(alloc, commits)?;
     put_ids::<H, B>(alloc, catalog, area, &states)?;
@@ -47,10 +47,10 @@ fn build<H: Hive, B: Blobs>(
     catalog: &mut Catalog<B>,
     area: &mut B,
 ) -> Result<RoundOut, RoundErr>
-    ensures ended { Ended H.keeps H.makes catalog.old.base catalog.old.rows (B.seen catalog.old.area).held (B.seen area.old).held (B.seen area.new).held
-        (HasRisen (B.seen catalog.old.area).faults (B.seen catalog.new.area).faults) (HasRisen (B.seen area.old).faults (B.seen area.new).faults) result }
-    ensures same { ((B.seen catalog.new.area).held ≡ (B.seen catalog.old.area).held) × (catalog.new.base ≡ catalog.old.base) × (catalog.new.rows ≡ catalog.old.rows) }
-    ensures later { ((B.seen catalog.old.area).faults ≤ (B.seen catalog.new.area).faults) × ((B.seen area.old).faults ≤ (B.seen area.new).faults) }
+    ensures ended { Ended H.keeps H.makes (scene catalog.old (B.seen catalog.old.area) (B.seen area.old))
+        (scene catalog.new (B.seen catalog.new.area) (B.seen area.new)) result }
+    ensures stays { StaysOpen catalog.old catalog.new (B.seen catalog.old.area) (B.seen catalog.new.area) (IsErrOf result RoundErr.CatalogFault) }
+    ensures counts { CountsFault (B.seen area.old).faults (B.seen area.new).faults (IsErrOf result RoundErr.HiveFault) }
 {
     let built = holds_cursor(alloc, area)?;
     if built {
@@ -77,40 +77,46 @@ pub fn build_once<H: Hive, B: Blobs>(
     catalog: &mut Catalog<B>,
     area: &mut B,
 ) -> Result<RoundOut, RoundErr>
-    // The puts over what the area held, where the catalog's area holds the catalog whole.
-    ensures done { IfOk result (λ out. IfDone out (λ n. ForWhole (B.seen catalog.old.area).held catalog.old.base catalog.old.rows (λ cs. (n ≡ length cs) × (0 < n)
-        × HasRun (round_puts H.keeps H.makes catalog.old.base cs) (B.seen area.old).held (B.seen area.new).held))) }
+    // The puts over what the area held, of each catalog that is open.
+    ensures done { IfOk result (λ out. IfDone out (λ n. (cs : List Stored) → IsOpenFor catalog.old (B.seen catalog.old.area) cs
+        → (n ≡ length cs) × (0 < n) × HasRun (round_puts H.keeps H.makes catalog.old.base cs) (B.seen area.old).held (B.seen area.new).held)) }
 
     // So the area holds the documents of every id and the cursor; where it was empty, nothing else.
-    ensures settled { IfOk result (λ out. IfDone out (λ n. ForWhole (B.seen catalog.old.area).held catalog.old.base catalog.old.rows (λ cs.
-        IfSome (B.seen area.old).held (λ a. (left : Area) × ((B.seen area.new).held ≡ Some left) × IsSettledOver H.keeps H.makes catalog.old.base cs a left)))) }
-    ensures from_nothing { IfOk result (λ out. IfDone out (λ n. ForWhole (B.seen catalog.old.area).held catalog.old.base catalog.old.rows (λ cs.
-        IfSome (B.seen area.old).held (λ a. a ≡ map.empty → (left : Area) × ((B.seen area.new).held ≡ Some left) × IsSettled H.keeps H.makes catalog.old.base cs left)))) }
+    ensures settled { IfOk result (λ out. IfDone out (λ n. (cs : List Stored) → IsOpenFor catalog.old (B.seen catalog.old.area) cs
+        → IfSome (B.seen area.old).held (λ a. (left : Area)
+        × ((B.seen area.new).held ≡ Some left) × IsSettledOver H.keeps H.makes catalog.old.base cs a left))) }
+    ensures from_nothing { IfOk result (λ out. IfDone out (λ n. (cs : List Stored) → IsOpenFor catalog.old (B.seen catalog.old.area) cs
+        → IfSome (B.seen area.old).held (λ a. a ≡ map.empty → (left : Area)
+        × ((B.seen area.new).held ≡ Some left) × IsSettled H.keeps H.makes catalog.old.base cs left))) }
 
-    ensures idle { IfOk result (λ out. IfIdle out (λ n. (n ≡ 0) × IfSome (B.seen catalog.old.area).held (λ m. catalog.old.rows ≡ []) × ((B.seen area.new).held ≡ (B.seen area.old).held))) }
+    ensures idle { IfOk result (λ out. IfIdle out (λ n. (n ≡ 0) × ((cs : List Stored) → IsOpenFor catalog.old (B.seen catalog.old.area) cs → cs ≡ [])
+        × ((B.seen area.new).held ≡ (B.seen area.old).held))) }
     ensures fresh { IfOk result (λ out. IfSome (B.seen area.old).held (λ a. get a cursor_name ≡ None)) }
 
     // Where there is a cursor, nothing changes, whatever the answer.
     ensures standing { IfSome (B.seen area.old).held (λ a. IsSome (get a cursor_name) → (B.seen area.new).held ≡ (B.seen area.old).held) }
 
-    ensures unsupported { IsErrOf result RoundErr.Unsupported → ((B.seen area.new).held ≡ (B.seen area.old).held) × IfSome (B.seen area.old).held (λ a. IsSome (get a cursor_name)) }
-    ensures catalog_fault { IsErrOf result RoundErr.CatalogFault → HasRisen (B.seen catalog.old.area).faults (B.seen catalog.new.area).faults }
-    ensures hive_fault { IsErrOf result RoundErr.HiveFault → HasRisen (B.seen area.old).faults (B.seen area.new).faults }
-    ensures damaged { IfErr result (λ e. IfDamaged e (IsMissing (B.seen catalog.old.area).held catalog.old.base catalog.old.rows)) }
+    ensures unsupported { IsErrOf result RoundErr.Unsupported
+        → ((B.seen area.new).held ≡ (B.seen area.old).held) × IfSome (B.seen area.old).held (λ a. IsSome (get a cursor_name)) }
+    ensures damaged { IfErr result (λ e. IfDamaged e (IsMissing (B.seen catalog.old.area).held)) }
 
-    // A whole catalog isn't damaged: where its area holds it, no store failed and there is no cursor, only memory can be wanting.
-    ensures whole { ForWhole (B.seen catalog.old.area).held catalog.old.base catalog.old.rows (λ cs. IfErr result (λ e. IfDamaged e (λ n. ⊥))) }
-    ensures complete { ForWhole (B.seen catalog.old.area).held catalog.old.base catalog.old.rows (λ cs. IfSome (B.seen area.old).held (λ a. get a cursor_name ≡ None
+    // A catalog that is open isn't damaged: where no store failed and there is no cursor, only memory can be wanting.
+    ensures whole { (cs : List Stored) → IsOpenFor catalog.old (B.seen catalog.old.area) cs → IfErr result (λ e. IfDamaged e (λ n. ⊥)) }
+    ensures complete { (cs : List Stored) → IsOpenFor catalog.old (B.seen catalog.old.area) cs
+        → IfSome (B.seen area.old).held (λ a. get a cursor_name ≡ None
         → (HasRisen (B.seen catalog.old.area).faults (B.seen catalog.new.area).faults → ⊥) → (HasRisen (B.seen area.old).faults (B.seen area.new).faults → ⊥)
-        → IfErr result (λ e. e ≡ RoundErr.Memory))) }
+        → IfErr result (λ e. e ≡ RoundErr.Memory)) }
 
     // Whatever it answers, a prefix of the puts is held, so there is no cursor before all documents.
-    ensures some { ForWhole (B.seen catalog.old.area).held catalog.old.base catalog.old.rows (λ cs. HasRunSome (round_puts H.keeps H.makes catalog.old.base cs) (B.seen area.old).held (B.seen area.new).held) }
-    ensures cursor_last { ForWhole (B.seen catalog.old.area).held catalog.old.base catalog.old.rows (λ cs. IfSome (B.seen area.old).held (λ a. get a cursor_name ≡ None
-        → (left : Area) × ((B.seen area.new).held ≡ Some left) × HasCursorLast H.keeps H.makes catalog.old.base cs a left)) }
+    ensures some { (cs : List Stored) → IsOpenFor catalog.old (B.seen catalog.old.area) cs
+        → HasRunSome (round_puts H.keeps H.makes catalog.old.base cs) (B.seen area.old).held (B.seen area.new).held }
+    ensures cursor_last { (cs : List Stored) → IsOpenFor catalog.old (B.seen catalog.old.area) cs
+        → IfSome (B.seen area.old).held (λ a. get a cursor_name ≡ None
+        → (left : Area) × ((B.seen area.new).held ≡ Some left) × HasCursorLast H.keeps H.makes catalog.old.base cs a left) }
 
-    ensures same { ((B.seen catalog.new.area).held ≡ (B.seen catalog.old.area).held) × (catalog.new.base ≡ catalog.old.base) × (catalog.new.rows ≡ catalog.old.rows) }
-    ensures later { ((B.seen catalog.old.area).faults ≤ (B.seen catalog.new.area).faults) × ((B.seen area.old).faults ≤ (B.seen area.new).faults) }
+    // The catalog stays open, also at a crash; it may be settled first.
+    ensures stays { StaysOpen catalog.old catalog.new (B.seen catalog.old.area) (B.seen catalog.new.area) (IsErrOf result RoundErr.CatalogFault) }
+    ensures counts { CountsFault (B.seen area.old).faults (B.seen area.new).faults (IsErrOf result RoundErr.HiveFault) }
 {
     build::<H, B>(alloc, catalog, area)
 }

@@ -1,12 +1,11 @@
 // The puts of a hive's documents, one document in memory at a time.
-ghost use Rattle.std.specs.Prelude.{◌≡◌, ◌≤◌, ◌∷◌, [], ⊤, IfErr, IfOk, IsSome, OnOk};
-ghost use Rattle.feed_base.specs.Counts.{HasRisen};
-ghost use Rattle.catalog_doc.specs.Names.{staged_name};
-ghost use Rattle.std.specs.FinMap.{get};
+ghost use Rattle.std.specs.Prelude.{◌≡◌, ◌∷◌, [], ⊤, IfErr, IfOk, IsErrOf, IsSome};
+ghost use Rattle.feed_base.specs.Counts.{CountsFault};
 ghost use Rattle.blob_store.specs.declared.call.Call.TheVariants.{Put};
+ghost use Rattle.fold_core.specs.Docs.{bytes_of};
+ghost use Rattle.fold_core.specs.declared.doc.Body.TheVariants.{Staged as FromPublish};
 ghost use Rattle.job_round.specs.Errors.{IsCause};
-ghost use Rattle.job_round.specs.Puts.{bytes_in, doc_put, doc_puts, HasPut, HasPutSome, HasRun, HasRunSome, HaveAllBytes, HaveBytes};
-ghost use Rattle.job_round.specs.Puts.{index_last, IsLost, put_of};
+ghost use Rattle.job_round.specs.Puts.{doc_put, doc_puts, HasPut, HaveAllBytes, HaveBytes, index_last, put_of, PutsInto, scene};
 ghost use Rattle.job_round.specs.States.{docs_in, state_puts, states_puts};
 
 use crate::error::{RoundErr, catalog_err, hive_err};
@@ -24,10 +23,9 @@ pub(crate) fn put<B: Blobs>(
     name: &str,
     bytes: &[u8],
 ) -> Result<(), RoundErr>
-    ensures done { OnOk result (HasRun (Put name.now bytes.now ∷ []) (B.seen area.old).held (B.seen area.new).held) }
-    ensures some { HasRunSome (Put name.now bytes.now ∷ []) (B.seen area.old).held (B.seen area.new).held }
-    ensures cause { IfErr result (IsCause ⊥ (HasRisen (B.seen area.old).faults (B.seen area.new).faults) (λ n. ⊥)) }
-    ensures later { (B.seen area.old).faults ≤ (B.seen area.new).faults }
+    ensures puts { HasPut (Put name.now bytes.now ∷ []) (B.seen area.old).held (B.seen area.new).held result }
+    ensures cause { IfErr result (IsCause ⊥ ⊤ (λ n. ⊥)) }
+    ensures counts { CountsFault (B.seen area.old).faults (B.seen area.new).faults (IsErrOf result RoundErr.HiveFault) }
 {
     match area.put(alloc, name, bytes) {
         Ok(()) => Ok(()),
@@ -45,12 +43,8 @@ fn put_staged<B: Blobs>(
     place: u32,
     nuspec: bool,
 ) -> Result<(), RoundErr>
-    ensures done { OnOk result (HasPut (B.seen catalog.old.area).held (λ m. put_of name.now (get m (staged_name number place nuspec))) (B.seen area.old).held (B.seen area.new).held) }
-    ensures some { HasPutSome (B.seen catalog.old.area).held (λ m. put_of name.now (get m (staged_name number place nuspec))) (B.seen area.old).held (B.seen area.new).held }
-    ensures cause { IfErr result (IsCause (HasRisen (B.seen catalog.old.area).faults (B.seen catalog.new.area).faults) (HasRisen (B.seen area.old).faults (B.seen area.new).faults)
-        (IsLost (B.seen catalog.old.area).held (λ m. IsSome (get m (staged_name number place nuspec))))) }
-    ensures same { ((B.seen catalog.new.area).held ≡ (B.seen catalog.old.area).held) × (catalog.new.base ≡ catalog.old.base) × (catalog.new.rows ≡ catalog.old.rows) }
-    ensures later { ((B.seen catalog.old.area).faults ≤ (B.seen catalog.new.area).faults) × ((B.seen area.old).faults ≤ (B.seen area.new).faults) }
+    ensures { PutsInto (λ cs. put_of name.now (bytes_of cs (FromPublish number place nuspec))) (λ cs. IsSome (bytes_of cs (FromPublish number place nuspec)))
+        (scene catalog.old (B.seen catalog.old.area) (B.seen area.old)) (scene catalog.new (B.seen catalog.new.area) (B.seen area.new)) result }
 {
     match catalog.staged(alloc, number, place, nuspec) {
         Ok(bytes) => put(alloc, area, name, bytes.as_slice()),
@@ -64,12 +58,8 @@ fn put_doc<B: Blobs>(
     area: &mut B,
     doc: &Doc,
 ) -> Result<(), RoundErr>
-    ensures done { OnOk result (HasPut (B.seen catalog.old.area).held (λ m. doc_put (bytes_in m) doc.now) (B.seen area.old).held (B.seen area.new).held) }
-    ensures some { HasPutSome (B.seen catalog.old.area).held (λ m. doc_put (bytes_in m) doc.now) (B.seen area.old).held (B.seen area.new).held }
-    ensures cause { IfErr result (IsCause (HasRisen (B.seen catalog.old.area).faults (B.seen catalog.new.area).faults) (HasRisen (B.seen area.old).faults (B.seen area.new).faults)
-        (IsLost (B.seen catalog.old.area).held (λ m. IsSome (bytes_in m doc.now.body)))) }
-    ensures same { ((B.seen catalog.new.area).held ≡ (B.seen catalog.old.area).held) × (catalog.new.base ≡ catalog.old.base) × (catalog.new.rows ≡ catalog.old.rows) }
-    ensures later { ((B.seen catalog.old.area).faults ≤ (B.seen catalog.new.area).faults) × ((B.seen area.old).faults ≤ (B.seen area.new).faults) }
+    ensures { PutsInto (λ cs. doc_put (bytes_of cs) doc.now) (λ cs. IsSome (bytes_of cs doc.now.body))
+        (scene catalog.old (B.seen catalog.old.area) (B.seen area.old)) (scene catalog.new (B.seen catalog.new.area) (B.seen area.new)) result }
 {
     let name = doc.name.as_str();
     match &doc.body {
@@ -88,12 +78,8 @@ fn put_docs<B: Blobs>(
     area: &mut B,
     docs: &[Doc],
 ) -> Result<(), RoundErr>
-    ensures done { OnOk result (HasPut (B.seen catalog.old.area).held (λ m. doc_puts (bytes_in m) docs.now) (B.seen area.old).held (B.seen area.new).held) }
-    ensures some { HasPutSome (B.seen catalog.old.area).held (λ m. doc_puts (bytes_in m) docs.now) (B.seen area.old).held (B.seen area.new).held }
-    ensures cause { IfErr result (IsCause (HasRisen (B.seen catalog.old.area).faults (B.seen catalog.new.area).faults) (HasRisen (B.seen area.old).faults (B.seen area.new).faults)
-        (IsLost (B.seen catalog.old.area).held (λ m. HaveBytes (bytes_in m) docs.now))) }
-    ensures same { ((B.seen catalog.new.area).held ≡ (B.seen catalog.old.area).held) × (catalog.new.base ≡ catalog.old.base) × (catalog.new.rows ≡ catalog.old.rows) }
-    ensures later { ((B.seen catalog.old.area).faults ≤ (B.seen catalog.new.area).faults) × ((B.seen area.old).faults ≤ (B.seen area.new).faults) }
+    ensures { PutsInto (λ cs. doc_puts (bytes_of cs) docs.now) (λ cs. HaveBytes (bytes_of cs) docs.now)
+        (scene catalog.old (B.seen catalog.old.area) (B.seen area.old)) (scene catalog.new (B.seen catalog.new.area) (B.seen area.new)) result }
 {
     for doc in docs {
         put_doc(alloc, catalog, area, doc)?;
@@ -108,12 +94,8 @@ fn put_index_last<B: Blobs>(
     area: &mut B,
     docs: &[Doc],
 ) -> Result<(), RoundErr>
-    ensures done { OnOk result (HasPut (B.seen catalog.old.area).held (λ m. doc_puts (bytes_in m) (index_last docs.now)) (B.seen area.old).held (B.seen area.new).held) }
-    ensures some { HasPutSome (B.seen catalog.old.area).held (λ m. doc_puts (bytes_in m) (index_last docs.now)) (B.seen area.old).held (B.seen area.new).held }
-    ensures cause { IfErr result (IsCause (HasRisen (B.seen catalog.old.area).faults (B.seen catalog.new.area).faults) (HasRisen (B.seen area.old).faults (B.seen area.new).faults)
-        (IsLost (B.seen catalog.old.area).held (λ m. HaveBytes (bytes_in m) docs.now))) }
-    ensures same { ((B.seen catalog.new.area).held ≡ (B.seen catalog.old.area).held) × (catalog.new.base ≡ catalog.old.base) × (catalog.new.rows ≡ catalog.old.rows) }
-    ensures later { ((B.seen catalog.old.area).faults ≤ (B.seen catalog.new.area).faults) × ((B.seen area.old).faults ≤ (B.seen area.new).faults) }
+    ensures { PutsInto (λ cs. doc_puts (bytes_of cs) (index_last docs.now)) (λ cs. HaveBytes (bytes_of cs) docs.now)
+        (scene catalog.old (B.seen catalog.old.area) (B.seen area.old)) (scene catalog.new (B.seen catalog.new.area) (B.seen area.new)) result }
 {
     let [index, others @ ..] = docs else {
         return Ok(());
@@ -140,12 +122,8 @@ fn put_id<H: Hive, B: Blobs>(
     area: &mut B,
     state: &IdState,
 ) -> Result<(), RoundErr>
-    ensures done { OnOk result (HasPut (B.seen catalog.old.area).held (λ m. state_puts H.makes catalog.old.base (bytes_in m) state.now) (B.seen area.old).held (B.seen area.new).held) }
-    ensures some { HasPutSome (B.seen catalog.old.area).held (λ m. state_puts H.makes catalog.old.base (bytes_in m) state.now) (B.seen area.old).held (B.seen area.new).held }
-    ensures cause { IfErr result (IsCause (HasRisen (B.seen catalog.old.area).faults (B.seen catalog.new.area).faults) (HasRisen (B.seen area.old).faults (B.seen area.new).faults)
-        (IsLost (B.seen catalog.old.area).held (λ m. HaveBytes (bytes_in m) (docs_in H.makes catalog.old.base state.now)))) }
-    ensures same { ((B.seen catalog.new.area).held ≡ (B.seen catalog.old.area).held) × (catalog.new.base ≡ catalog.old.base) × (catalog.new.rows ≡ catalog.old.rows) }
-    ensures later { ((B.seen catalog.old.area).faults ≤ (B.seen catalog.new.area).faults) × ((B.seen area.old).faults ≤ (B.seen area.new).faults) }
+    ensures { PutsInto (λ cs. state_puts H.makes catalog.old.base (bytes_of cs) state.now) (λ cs. HaveBytes (bytes_of cs) (docs_in H.makes catalog.old.base state.now))
+        (scene catalog.old (B.seen catalog.old.area) (B.seen area.old)) (scene catalog.new (B.seen catalog.new.area) (B.seen area.new)) result }
 {
     let docs = docs_in::<H>(alloc, catalog.base(), state)?;
     put_index_last(alloc, catalog, area, docs.as_slice())
@@ -158,12 +136,9 @@ pub(crate) fn put_ids<H: Hive, B: Blobs>(
     area: &mut B,
     states: &[IdState],
 ) -> Result<(), RoundErr>
-    ensures done { OnOk result (HasPut (B.seen catalog.old.area).held (λ m. states_puts H.makes catalog.old.base (bytes_in m) states.now) (B.seen area.old).held (B.seen area.new).held) }
-    ensures some { HasPutSome (B.seen catalog.old.area).held (λ m. states_puts H.makes catalog.old.base (bytes_in m) states.now) (B.seen area.old).held (B.seen area.new).held }
-    ensures cause { IfErr result (IsCause (HasRisen (B.seen catalog.old.area).faults (B.seen catalog.new.area).faults) (HasRisen (B.seen area.old).faults (B.seen area.new).faults)
-        (IsLost (B.seen catalog.old.area).held (λ m. HaveAllBytes (docs_in H.makes catalog.old.base) (bytes_in m) states.now))) }
-    ensures same { ((B.seen catalog.new.area).held ≡ (B.seen catalog.old.area).held) × (catalog.new.base ≡ catalog.old.base) × (catalog.new.rows ≡ catalog.old.rows) }
-    ensures later { ((B.seen catalog.old.area).faults ≤ (B.seen catalog.new.area).faults) × ((B.seen area.old).faults ≤ (B.seen area.new).faults) }
+    ensures { PutsInto (λ cs. states_puts H.makes catalog.old.base (bytes_of cs) states.now)
+        (λ cs. HaveAllBytes (docs_in H.makes catalog.old.base) (bytes_of cs) states.now)
+        (scene catalog.old (B.seen catalog.old.area) (B.seen area.old)) (scene catalog.new (B.seen catalog.new.area) (B.seen area.new)) result }
 {
     for state in states {
         put_id::<H, B>(alloc, catalog, area, state)?;

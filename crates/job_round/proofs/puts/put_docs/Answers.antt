@@ -1,31 +1,24 @@
-use Rattle.std.proofs.Common.{Option, ◌∙◌, subst, arith}
-use Rattle.blob_store.specs.Area.{Area}
-use Rattle.job_round.specs.Puts.{bytes_in, doc_put, doc_puts, HasPut, HasPutSome}
-use Rattle.job_round.proofs.Steps.{ends, more, put_some, stops}
+use Rattle.std.proofs.Common.{Err, ap, ◌∙◌}
+use Rattle.std.proofs.lemmas.Result.{err_from_is_err_and}
+use Rattle.std.specs.Prelude.{IsSome}
+use Rattle.fold_core.specs.Docs.{bytes_of}
+use Rattle.job_round.specs.Puts.{doc_put, HaveBytes}
+use Rattle.job_round.proofs.Steps.{ends, more, no_puts, stops}
 use Rattle.job_round.proofs.puts.put_docs.Goals as goal
 
-pub returns-in_err-put_doc-clause-some : goal.returns-in_err-put_doc-clause-some
-returns-in_err-put_doc-clause-some g c =
-    stops (λ m. doc_put (bytes_in m)) c.args.docs.now (g.B.Blobs.seen c.args.catalog.now.area).held c.loop-doc.doc-index c.doc-item.result
-    (g.B.Blobs.seen c.args.area.now).held (g.B.Blobs.seen c.loop-doc.area).held (g.B.Blobs.seen c.put_doc.new.area).held c.loop-doc-test.true c.doc-item.is c.loop-doc.invariant.put
-    (subst (λ (h : Option Area). HasPutSome h (λ m. doc_put (bytes_in m) c.doc-item.result) (g.B.Blobs.seen c.loop-doc.area).held (g.B.Blobs.seen c.put_doc.new.area).held)
-    c.loop-doc.invariant.area c.put_doc.ensures.some)
+pub loop-doc-init : goal.loop-doc-init
+loop-doc-init g c = no_puts (λ cs. HaveBytes (bytes_of cs) c.args.docs.now) _ (g.met.B.Blobs.now c.args.catalog.now.area)
+
+pub returns-in_err-put_doc : goal.returns-in_err-put_doc
+returns-in_err-put_doc g c =
+    let p = err_from_is_err_and c.from_residual.result c.from_residual.ensures.1 in
+    stops (λ cs d. doc_put (bytes_of cs) d) (λ cs d. IsSome (bytes_of cs d.body)) c.args.docs.now c.loop-doc.doc-index c.doc-item.result _ _ _
+    c.loop-doc-test.true c.doc-item.is c.loop-doc.invariant c.in_err-put_doc.field-0.0 c.from_residual.result (p.1 ∙ ap Err p.2) c.in_err-put_doc.ensures
 
 pub loop-doc-preserved : goal.loop-doc-preserved
-loop-doc-preserved g c = record {
-  area = c.put_doc.ensures.same.0 ∙ c.loop-doc.invariant.area;
-  base = c.put_doc.ensures.same.1 ∙ c.loop-doc.invariant.base;
-  rows = c.put_doc.ensures.same.2 ∙ c.loop-doc.invariant.rows;
-  gets = omega (arith, c.loop-doc.invariant.gets, c.put_doc.ensures.later.0);
-  faults = omega (arith, c.loop-doc.invariant.faults, c.put_doc.ensures.later.1);
-  put = more (λ m. doc_put (bytes_in m)) c.args.docs.now (g.B.Blobs.seen c.args.catalog.now.area).held c.loop-doc.doc-index c.doc-item.result
-      (g.B.Blobs.seen c.args.area.now).held (g.B.Blobs.seen c.loop-doc.area).held (g.B.Blobs.seen c.put_doc.new.area).held c.loop-doc-test.true c.doc-item.is c.loop-doc.invariant.put
-      (subst (λ (h : Option Area). HasPut h (λ m. doc_put (bytes_in m) c.doc-item.result) (g.B.Blobs.seen c.loop-doc.area).held (g.B.Blobs.seen c.put_doc.new.area).held)
-      c.loop-doc.invariant.area c.in_ok-put_doc.ensures.done);
-}
+loop-doc-preserved g c =
+    more (λ cs d. doc_put (bytes_of cs) d) (λ cs d. IsSome (bytes_of cs d.body)) c.args.docs.now c.loop-doc.doc-index c.doc-item.result _ _ _
+    c.loop-doc-test.true c.doc-item.is c.loop-doc.invariant c.in_ok-put_doc.ensures
 
-pub returns-clause-some : goal.returns-clause-some
-returns-clause-some g c =
-    put_some (λ m. doc_puts (bytes_in m) c.args.docs.now) (g.B.Blobs.seen c.args.catalog.now.area).held (g.B.Blobs.seen c.args.area.now).held (g.B.Blobs.seen c.loop-doc.area).held
-    (ends (λ m. doc_put (bytes_in m)) c.args.docs.now (g.B.Blobs.seen c.args.catalog.now.area).held c.loop-doc.doc-index (g.B.Blobs.seen c.args.area.now).held (g.B.Blobs.seen c.loop-doc.area).held
-    c.loop-doc-test.false c.loop-doc.invariant.put)
+pub returns : goal.returns
+returns g c = ends (λ cs d. doc_put (bytes_of cs) d) (λ cs d. IsSome (bytes_of cs d.body)) c.args.docs.now c.loop-doc.doc-index _ _ c.loop-doc-test.false c.loop-doc.invariant

@@ -1,15 +1,13 @@
-use Rattle.std.proofs.Common.{◌≡◌, ◌≤◌, take}
-use Rattle.job_round.specs.Puts.{bytes_in, HasPut}
-use Rattle.job_round.specs.States.{states_puts}
+use Rattle.std.proofs.Common.{take}
+use Rattle.fold_core.specs.Docs.{bytes_of}
+use Rattle.job_round.specs.Puts.{HaveAllBytes, PutsInto, scene}
+use Rattle.job_round.specs.States.{docs_in, states_puts}
+use Rattle.job_round.proofs.Steps.{well}
 use Rattle.job_round.proofs.puts.put_ids.Given as goal
 
 -- the documents of the ids so far were put
 abbrev pub invariant-loop-state : goal.invariant-loop-state
-invariant-loop-state g l = record {
-  area : (g.B.Blobs.seen l.catalog.area).held ≡ (g.B.Blobs.seen l.fn.catalog.area).held;
-  base : l.catalog.base ≡ l.fn.catalog.base;
-  rows : l.catalog.rows ≡ l.fn.catalog.rows;
-  gets : (g.B.Blobs.seen l.fn.catalog.area).faults ≤ (g.B.Blobs.seen l.catalog.area).faults;
-  faults : (g.B.Blobs.seen l.fn.area).faults ≤ (g.B.Blobs.seen l.area).faults;
-  put : HasPut (g.B.Blobs.seen l.fn.catalog.area).held (λ m. states_puts g.H.Hive.makes l.fn.catalog.base (bytes_in m) (take l.state-index l.states)) (g.B.Blobs.seen l.fn.area).held (g.B.Blobs.seen l.area).held;
-}
+invariant-loop-state g l =
+    PutsInto (λ cs. states_puts g.H.Hive.makes l.fn.catalog.base (bytes_of cs) (take l.state-index l.states))
+    (λ cs. HaveAllBytes (docs_in g.H.Hive.makes l.fn.catalog.base) (bytes_of cs) l.states)
+    (scene l.fn.catalog (g.B.Blobs.seen l.fn.catalog.area) (g.B.Blobs.seen l.fn.area)) (scene l.catalog (g.B.Blobs.seen l.catalog.area) (g.B.Blobs.seen l.area)) well
