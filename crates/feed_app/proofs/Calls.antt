@@ -6,7 +6,7 @@ use Rattle.feed_app.specs.Answers.{status_of}
 use Rattle.feed_app.specs.Commands.{Command, Init, Get, Publish, Job, command_of}
 use Rattle.feed_app.specs.Does.{Does, meaning, reach_of}
 use Rattle.feed_app.specs.Frame.{Explains, IsDone, IsLost, Keeps, Meaning, Touches, most_input, touch_of}
-use Rattle.feed_app.specs.Outside.{AreaRose, Bounds, Members, Outside, Rose, Shows, Sight, Stream, area_of, held, input_of, output_of, sight}
+use Rattle.feed_app.specs.Outside.{AreaRose, Bounds, Members, Outside, Rose, Shows, Sight, Stream, area_of, input_of, output_of, sight}
 use Rattle.feed_app.specs.Runs.{IsGood, IsQuiet, IsReady, IsTouchedBy, Quiet, Runs}
 use Rattle.feed_app.specs.Writes.{Writes}
 use Rattle.feed_app.specs.declared.answer.Answer.{Answer}
@@ -114,6 +114,9 @@ module _ {B I O C : Type 0} (b : Bounds B I O C) (words : List (List ℕ)) (befo
   its_status : status ≢ 5 → status ≢ 8 → status_of run.answer ≡ status
   its_status no5 no8 = own_status run.answer status (output_of b.sink before.output) (output_of b.sink after.output) run.writes no5 no8
 
+  pub zero_answer : status ≡ 0 → status_of run.answer ≡ 0
+  zero_answer is = its_status (λ e. omega (arith, is, e)) (λ e. omega (arith, is, e)) ∙ is
+
   its_cause : status_of run.answer ≢ 2 → ByCommand b.blobs (sight b before) (sight b after) (command_of words) run.answer
   its_cause other = by_command b.blobs (sight b before) (sight b after) (command_of words) run.answer run.does other
 
@@ -157,13 +160,13 @@ module _ {B I O C : Type 0} (b : Bounds B I O C) (words : List (List ℕ)) (befo
       inl why.1)
       (λ other. ⊎_elim (λ memory. absurd (omega (arith, is, memory.number))) (λ prefix. inr prefix.rose) other) run.writes
 
-  pub damaged : status ≡ 6 → (name : AreaName) × (blob : List ℕ) × IsTouchedBy b.blobs words name × IsLost name (held b.blobs (area_of before.stores name)) blob
+  pub damaged : status ≡ 6 → (name : AreaName) × IsTouchedBy b.blobs words name × IsLost name (b.blobs.seen (area_of before.stores name))
   damaged is =
       let kind : status_of run.answer ≡ 6 = its_status (λ e. omega (arith, is, e)) (λ e. omega (arith, is, e)) ∙ is in
       let cause = its_cause (λ e. omega (arith, kind, e)) in
       let lost = is_damage run.answer kind in
       let why = subst (λ (a : Answer). Explains b.blobs (meaning b.blobs cause.0).reach (sight b before) a (sight b after)) lost.2 cause.2 in
-      (lost.0, lost.1, (cause.0, cause.1, why.0), why.1)
+      (lost.0, (cause.0, cause.1, why.0), why.1)
 
   pub too_long : status ≡ 7 → (command : Command) × (command_of words ≡ Some command) × Touches (meaning b.blobs command).reach.input × IfSome (b.source.left before.input) (λ body. most_input < length body)
   too_long is =

@@ -1,78 +1,153 @@
 -- What a commit answered, and what it left.
-use Rattle.std.proofs.Common.{◌≡◌, ℕ, List, ◌∙◌, ◌⊎◌, Option, Some, None, IfSome, IfErr, inl, inr, ap, subst, refl}
-use Rattle.std.specs.Prelude.{Ok, Err, option_map}
+use Rattle.std.proofs.Common.{◌≡◌, ℕ, List, Ok, Err, Result, Some, inl, inr, refl, ◌∙◌, subst, arith}
 use Rattle.blob_store.specs.Area.{Area}
-use Rattle.blob_store.specs.Runs.{after_calls, IsAfterSome}
+use Rattle.blob_store.specs.Moments.{LeavesOnly}
+use Rattle.blob_store.specs.Seen.{Seen}
+use Rattle.blob_store.proofs.Moments.{weaker}
 use Rattle.pkg_meta.specs.Catalog.{Catalog}
-use Rattle.pkg_meta.specs.Lawful.{newest}
-use Rattle.pkg_meta.specs.declared.meta.Meta.{Meta}
-use Rattle.catalog_doc.specs.CatDocs.{all_rows}
-use Rattle.catalog_core.specs.Commits.{commit_puts, made}
-use Rattle.catalog_core.specs.Verdicts.{IsRefusal, answer_for, refusal, verdict}
-use Rattle.catalog_core.specs.declared.change.Change.{Change}
-use Rattle.catalog_core.specs.declared.error.CommitErr.{CommitErr}
-use Rattle.catalog_core.specs.declared.error.CommitErr.TheVariants.{Exists, Unsupported, ClockEnd, Fault, Memory}
+use Rattle.catalog_doc.specs.Spelled.{SpellsCatalog}
+use Rattle.catalog_doc.specs.Verdict.{verdict}
+use Rattle.catalog_doc.specs.declared.change.Change.{Change}
+use Rattle.catalog_doc.specs.declared.change.Committed.{Committed}
+use Rattle.catalog_doc.specs.declared.error.CommitErr.{CommitErr}
+use Rattle.catalog_doc.specs.declared.error.CommitErr.TheVariants.{Empty, TooMany, Twice, Exists, Absent, Already, IdFull, Full, Unsupported, ClockEnd, Fault, Damaged, Memory}
+use Rattle.catalog_opening.specs.Openings.{IsStoreOf}
+use Rattle.catalog_core.specs.Committing.{Commits, MayBeCommitted, with_made, WithOrWithout}
+use Rattle.catalog_core.specs.Opened.{IsOpenFor, Opened}
+use Rattle.catalog_items.proofs.Getting.{leaves_then}
+use Rattle.catalog_core.proofs.Frames.{known_store}
+use Rattle.feed_app.specs.Answers.{status_of}
 use Rattle.feed_app.specs.Causes.{commit_answer}
-use Rattle.feed_app.specs.Publishes.{Commits, IsBegun, IsCommitted, changes_of}
+use Rattle.feed_app.specs.Publishes.{commit_reply, CommitsAt}
+use Rattle.feed_app.specs.Spelled.{HasCatalog, IsOpenOver, StaysSpelled}
 use Rattle.feed_app.specs.declared.answer.Answer.TheVariants as answer
+use Rattle.feed_app.specs.declared.answer.Refusal.{Refusal}
+use Rattle.feed_app.specs.declared.area.AreaName.{AreaName}
 use Rattle.feed_app.specs.declared.area.AreaName.TheVariants as area
 
 pub fault_by : (e : CommitErr) → commit_answer e ≡ answer.Fault area.Catalog → e ≡ Fault
 fault_by Fault is = refl
+fault_by (Damaged name) is = cc is
+fault_by Memory is = cc is
+fault_by Empty is = cc is
+fault_by (TooMany count) is = cc is
+fault_by (Twice place) is = cc is
 fault_by (Exists place number) is = cc is
+fault_by (Absent place number) is = cc is
+fault_by (Already place number) is = cc is
+fault_by (IdFull place) is = cc is
+fault_by (Full items) is = cc is
 fault_by Unsupported is = cc is
 fault_by ClockEnd is = cc is
-fault_by Memory is = cc is
 
-module _ (m : Meta) (nuspec nupkg : List ℕ) (now : ℕ) (base : List ℕ) (cs : Catalog) where
-  module _ (old new : Option Area) where
-    abbrev Prefix : Type 0
-    Prefix = IfSome old (λ blobs. (left : Area) × (new ≡ Some left) × IsAfterSome (commit_puts base cs (made cs (changes_of m nuspec nupkg) now)) blobs left)
+abbrev told : CommitErr → Result Committed CommitErr
+told e = Err e
 
-    abbrev Begun : Type 0
-    Begun = IsBegun m nuspec nupkg now base cs old new
+-- what a commit says of a catalog, of a weaker fact
+with_as : (cs : Catalog) (changes : List Change) (now : ℕ) (P Q : Catalog → Type 0) → ((ds : Catalog) → P ds → Q ds) → WithOrWithout cs changes now P → WithOrWithout cs changes now Q
+with_as cs changes now P Q to (inl p) = inl (to cs p)
+with_as cs changes now P Q to (inr (taken, p)) = inr (taken, to (with_made cs changes now) p)
 
-    begun : verdict cs (changes_of m nuspec nupkg) now ≡ Ok (made cs (changes_of m nuspec nupkg) now) → Prefix → Begun
-    begun taken prefix = (made cs (changes_of m nuspec nupkg) now, taken, prefix)
+pub commits_as : (cs : Catalog) (changes : List Change) (now : ℕ) (r : Result Committed CommitErr) (P Q : Catalog → Type 0) → ((ds : Catalog) → P ds → Q ds) → Commits cs changes now r P → Commits cs changes now r Q
+commits_as cs changes now (Ok done) P Q to (taken, tells, p) = (taken, tells, to (with_made cs changes now) p)
+commits_as cs changes now (Err Fault) P Q to p = with_as cs changes now P Q to p
+commits_as cs changes now (Err (Damaged name)) P Q to p = p
+commits_as cs changes now (Err Memory) P Q to p = with_as cs changes now P Q to p
+commits_as cs changes now (Err Empty) P Q to (refused, p) = (refused, to cs p)
+commits_as cs changes now (Err (TooMany count)) P Q to (refused, p) = (refused, to cs p)
+commits_as cs changes now (Err (Twice place)) P Q to (refused, p) = (refused, to cs p)
+commits_as cs changes now (Err (Exists place number)) P Q to (refused, p) = (refused, to cs p)
+commits_as cs changes now (Err (Absent place number)) P Q to (refused, p) = (refused, to cs p)
+commits_as cs changes now (Err (Already place number)) P Q to (refused, p) = (refused, to cs p)
+commits_as cs changes now (Err (IdFull place)) P Q to (refused, p) = (refused, to cs p)
+commits_as cs changes now (Err (Full items)) P Q to (refused, p) = (refused, to cs p)
+commits_as cs changes now (Err Unsupported) P Q to (refused, p) = (refused, to cs p)
+commits_as cs changes now (Err ClockEnd) P Q to (refused, p) = (refused, to cs p)
 
-    by_reason : (why : Option CommitErr) → refusal (all_rows cs) (newest cs) (changes_of m nuspec nupkg) ≡ why
-        → IfErr (answer_for (made cs (changes_of m nuspec nupkg) now) why) (λ e. new ≡ old) → Prefix → (new ≡ old) ⊎ Begun
-    by_reason None is same prefix = inr (begun (ap (answer_for (made cs (changes_of m nuspec nupkg) now)) is) prefix)
-    by_reason (Some e) is same prefix = inl same
+-- whatever was answered, the catalog is there with the commit or without it
+pub with_or_without : (cs : Catalog) (changes : List Change) (now : ℕ) (r : Result Committed CommitErr) (P : Catalog → Type 0) → Commits cs changes now r P → WithOrWithout cs changes now P
+with_or_without cs changes now (Ok done) P (taken, tells, p) = inr (taken, p)
+with_or_without cs changes now (Err Fault) P p = p
+with_or_without cs changes now (Err (Damaged name)) P p = absurd p
+with_or_without cs changes now (Err Memory) P p = p
+with_or_without cs changes now (Err Empty) P (refused, p) = inl p
+with_or_without cs changes now (Err (TooMany count)) P (refused, p) = inl p
+with_or_without cs changes now (Err (Twice place)) P (refused, p) = inl p
+with_or_without cs changes now (Err (Exists place number)) P (refused, p) = inl p
+with_or_without cs changes now (Err (Absent place number)) P (refused, p) = inl p
+with_or_without cs changes now (Err (Already place number)) P (refused, p) = inl p
+with_or_without cs changes now (Err (IdFull place)) P (refused, p) = inl p
+with_or_without cs changes now (Err (Full items)) P (refused, p) = inl p
+with_or_without cs changes now (Err Unsupported) P (refused, p) = inl p
+with_or_without cs changes now (Err ClockEnd) P (refused, p) = inl p
 
-    -- why it wasn't made
-    not_made : (e : CommitErr) → (IsRefusal e → verdict cs (changes_of m nuspec nupkg) now ≡ Err e) → (IsRefusal e → new ≡ old)
-        → (e ≡ Fault → verdict cs (changes_of m nuspec nupkg) now ≡ Ok (made cs (changes_of m nuspec nupkg) now))
-        → IfErr (verdict cs (changes_of m nuspec nupkg) now) (λ x. new ≡ old) → Prefix → Commits m nuspec nupkg now base cs (commit_answer e) old new
-    not_made (Exists place number) refused same taken unmade prefix = (same tt, refused tt)
-    not_made Unsupported refused same taken unmade prefix = (same tt, refused tt)
-    not_made ClockEnd refused same taken unmade prefix = (same tt, refused tt)
-    not_made Fault refused same taken unmade prefix = begun (taken refl) prefix
-    not_made Memory refused same taken unmade prefix = by_reason (refusal (all_rows cs) (newest cs) (changes_of m nuspec nupkg)) refl unmade prefix
+-- a commit of an open catalog, behind its opening
+pub commits_behind : {B : Type 0} (s now after : Seen) (o n : Opened B) (changes : List Change) (moment : ℕ) (r : Result Committed CommitErr) → StaysSpelled s now → IsOpenOver s o now → n.base ≡ o.base
+    → ((cs : Catalog) → IsOpenFor o now cs → Commits cs changes moment r (IsOpenFor n after))
+    → ((cs : Catalog) → IsOpenFor o now cs → LeavesOnly now after (λ left. WithOrWithout cs changes moment (SpellsCatalog left o.base)))
+    → CommitsAt changes moment s after r
+commits_behind s now after o n changes moment r first over same commits moments = record {
+  commits = λ base cs has.
+      let at = over base cs has in
+      commits_as cs changes moment r (IsOpenFor n after) (HasCatalog after base)
+      (λ ds is. record { lawful = is.lawful; store = subst (λ (x : List ℕ). IsStoreOf after x ds) (same ∙ at.0) (known_store n after ds is) }) (commits cs at.1);
+  moments = λ base cs has.
+      let at = over base cs has in
+      leaves_then s now after (λ left. WithOrWithout cs changes moment (SpellsCatalog left base))
+      (weaker s now (λ left. SpellsCatalog left base cs) (λ left. WithOrWithout cs changes moment (SpellsCatalog left base)) (first.spelled base cs has).1 (λ left here. inl here))
+      (subst (λ (x : List ℕ). LeavesOnly now after (λ left. WithOrWithout cs changes moment (SpellsCatalog left x))) at.0 (moments cs at.1));
+}
 
-  -- a commit that was made
-  pub committed : (number stamp : ℕ) (changes : List Change) (old mid new : Option Area) → changes ≡ changes_of m nuspec nupkg → mid ≡ old → verdict cs changes now ≡ Ok (made cs changes now)
-      → number ≡ (made cs changes now).commit.number → stamp ≡ (made cs changes now).commit.stamp
-      → new ≡ option_map (after_calls (commit_puts base cs (made cs changes now))) mid → IsCommitted m nuspec nupkg now base cs number stamp old new
-  committed number stamp changes old mid new are same taken its_number its_stamp held = (
-    made cs changes now,
-    subst (λ (l : List Change). verdict cs l now ≡ Ok (made cs changes now)) are taken,
-    its_number,
-    its_stamp,
-    held ∙ ap (option_map (after_calls (commit_puts base cs (made cs changes now)))) same,
-  )
+-- a commit that wasn't refused
+pub reply_done : (r : Result Committed CommitErr) → status_of (commit_reply r) ≡ 0 → (done : Committed) × (r ≡ Ok done)
+reply_done (Ok done) is = (done, refl)
+reply_done (Err Fault) is = absurd (omega (arith, is))
+reply_done (Err (Damaged name)) is = absurd (omega (arith, is))
+reply_done (Err Memory) is = absurd (omega (arith, is))
+reply_done (Err Empty) is = absurd (omega (arith, is))
+reply_done (Err (TooMany count)) is = absurd (omega (arith, is))
+reply_done (Err (Twice place)) is = absurd (omega (arith, is))
+reply_done (Err (Exists place number)) is = absurd (omega (arith, is))
+reply_done (Err (Absent place number)) is = absurd (omega (arith, is))
+reply_done (Err (Already place number)) is = absurd (omega (arith, is))
+reply_done (Err (IdFull place)) is = absurd (omega (arith, is))
+reply_done (Err (Full items)) is = absurd (omega (arith, is))
+reply_done (Err Unsupported) is = absurd (omega (arith, is))
+reply_done (Err ClockEnd) is = absurd (omega (arith, is))
 
-  -- one that wasn't
-  pub ended : (e : CommitErr) (changes : List Change) (old mid new : Option Area) → changes ≡ changes_of m nuspec nupkg → mid ≡ old
-      → (IsRefusal e → verdict cs changes now ≡ Err e) → (IsRefusal e → new ≡ mid) → (e ≡ Fault → verdict cs changes now ≡ Ok (made cs changes now))
-      → IfErr (verdict cs changes now) (λ x. new ≡ mid)
-      → IfSome mid (λ blobs. (left : Area) × (new ≡ Some left) × IsAfterSome (commit_puts base cs (made cs changes now)) blobs left)
-      → Commits m nuspec nupkg now base cs (commit_answer e) old new
-  ended e changes old mid new are same refused kept taken unmade prefix =
-      not_made old new e
-      (λ i. subst (λ (l : List Change). verdict cs l now ≡ Err e) are (refused i)) (λ i. kept i ∙ same)
-      (λ i. subst (λ (l : List Change). verdict cs l now ≡ Ok (made cs l now)) are (taken i))
-      (subst (λ (o : Option Area). IfErr (verdict cs (changes_of m nuspec nupkg) now) (λ x. new ≡ o)) same
-      (subst (λ (l : List Change). IfErr (verdict cs l now) (λ x. new ≡ mid)) are unmade))
-      (subst (λ (o : Option Area). Prefix o new) same
-      (subst (λ (l : List Change). IfSome mid (λ blobs. (left : Area) × (new ≡ Some left) × IsAfterSome (commit_puts base cs (made cs l now)) blobs left)) are prefix))
+module _ (cs : Catalog) (changes : List Change) (now : ℕ) (P : Catalog → Type 0) where
+  both : (e : CommitErr) → MayBeCommitted cs changes now → verdict cs changes now ≡ Err e → ⊥
+  both e taken refused = cc (taken, refused)
+
+  -- changes that are taken aren't refused
+  pub not_refused : (why : Refusal) (r : Result Committed CommitErr) → MayBeCommitted cs changes now → commit_reply r ≡ answer.Refused why → Commits cs changes now r P → ⊥
+  not_refused why (Ok done) taken is commits = cc is
+  not_refused why (Err Fault) taken is commits = cc is
+  not_refused why (Err (Damaged name)) taken is commits = commits
+  not_refused why (Err Memory) taken is commits = cc is
+  not_refused why (Err Empty) taken is commits = both Empty taken commits.0
+  not_refused why (Err (TooMany count)) taken is commits = both (TooMany count) taken commits.0
+  not_refused why (Err (Twice place)) taken is commits = both (Twice place) taken commits.0
+  not_refused why (Err (Exists place number)) taken is commits = both (Exists place number) taken commits.0
+  not_refused why (Err (Absent place number)) taken is commits = both (Absent place number) taken commits.0
+  not_refused why (Err (Already place number)) taken is commits = both (Already place number) taken commits.0
+  not_refused why (Err (IdFull place)) taken is commits = both (IdFull place) taken commits.0
+  not_refused why (Err (Full items)) taken is commits = both (Full items) taken commits.0
+  not_refused why (Err Unsupported) taken is commits = both Unsupported taken commits.0
+  not_refused why (Err ClockEnd) taken is commits = both ClockEnd taken commits.0
+
+  pub not_damaged : (name : AreaName) (blob : List ℕ) (r : Result Committed CommitErr) → commit_reply r ≡ answer.Damaged name blob → Commits cs changes now r P → ⊥
+  not_damaged name blob (Ok done) is commits = cc is
+  not_damaged name blob (Err Fault) is commits = cc is
+  not_damaged name blob (Err (Damaged other)) is commits = commits
+  not_damaged name blob (Err Memory) is commits = cc is
+  not_damaged name blob (Err Empty) is commits = cc is
+  not_damaged name blob (Err (TooMany count)) is commits = cc is
+  not_damaged name blob (Err (Twice place)) is commits = cc is
+  not_damaged name blob (Err (Exists place number)) is commits = cc is
+  not_damaged name blob (Err (Absent place number)) is commits = cc is
+  not_damaged name blob (Err (Already place number)) is commits = cc is
+  not_damaged name blob (Err (IdFull place)) is commits = cc is
+  not_damaged name blob (Err (Full items)) is commits = cc is
+  not_damaged name blob (Err Unsupported) is commits = cc is
+  not_damaged name blob (Err ClockEnd) is commits = cc is

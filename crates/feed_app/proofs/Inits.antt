@@ -1,17 +1,21 @@
 -- What follows for `init`.
-use Rattle.std.proofs.Common.{◌≡◌, ℕ, List, Option, None, IsSome, refl}
+use Rattle.std.proofs.Common.{◌≡◌, ◌⊎◌, ◌∙◌, ℕ, List, Option, None, Some, IsSome, ap, inl, inr, refl}
 use Rattle.std.specs.FinMap.{get}
-use Rattle.feed_base.proofs.Options.{at_some}
+use Rattle.feed_base.proofs.Options.{at_some, intro}
 use Rattle.blob_store.specs.Area.{Area}
 use Rattle.catalog_doc.specs.Names.{index_name}
+use Rattle.catalog_core.specs.Openings.{IsFirstArea}
+use Rattle.catalog_core.specs.declared.error.InitErr.{InitErr}
+use Rattle.catalog_core.specs.declared.error.InitErr.TheVariants as error
 use Rattle.feed_app.specs.Accepts.{Accepts}
+use Rattle.feed_app.specs.Causes.{init_answer}
 use Rattle.feed_app.specs.Frame.{Explains}
-use Rattle.feed_app.specs.Inits.{Inits, init_meaning}
+use Rattle.feed_app.specs.Inits.{Inits, IsMade, init_meaning}
 use Rattle.feed_app.specs.Outside.{AreaRose, Members, Shows, Sight, held}
 use Rattle.feed_app.specs.declared.answer.Answer.{Answer}
 use Rattle.feed_app.specs.declared.answer.Answer.TheVariants.{Done, Usage, Refused, Fault, FaultInput, Damaged, TooLong, Memory}
 use Rattle.feed_app.specs.declared.answer.Refusal.{Refusal}
-use Rattle.feed_app.specs.declared.answer.Refusal.TheVariants.{Initialised, Uninitialised, UnsupportedBody, UnsupportedCatalog, UnsupportedPath, UnsupportedArea, Exists, ClockEnd, Missing}
+use Rattle.feed_app.specs.declared.answer.Refusal.TheVariants.{Initialised, Uninitialised, UnsupportedBody, UnsupportedCatalog, UnsupportedPath, UnsupportedArea, Commit, Missing}
 use Rattle.feed_app.specs.declared.area.AreaName.TheVariants as area
 use Rattle.feed_app.proofs.Absent.{not_both}
 
@@ -32,15 +36,25 @@ module _ {B : Type 0} (m : Members B) (base : List ℕ) (before after : Sight B)
   explains old new Memory rose is = tt
 
   refused : (why : Refusal) → Shows (held m before.stores.catalog) (λ blobs. get blobs index_name ≡ None) → Inits base (held m before.stores.catalog) (Refused why) (held m after.stores.catalog) → ⊥
-  refused Initialised ready is = not_both (get ready.0 index_name) (at_some (held m before.stores.catalog) (λ blobs. IsSome (get blobs index_name)) ready.0 ready.1 is.0) ready.2
+  refused Initialised ready is = not_both (get ready.0 index_name) (at_some (held m before.stores.catalog) (λ blobs. IsSome (get blobs index_name) × (held m after.stores.catalog ≡ Some blobs)) ready.0 ready.1 is).0 ready.2
   refused Uninitialised ready is = is
   refused UnsupportedBody ready is = is
   refused UnsupportedCatalog ready is = is
   refused UnsupportedPath ready is = is
   refused UnsupportedArea ready is = is
-  refused (Exists place number) ready is = is
-  refused ClockEnd ready is = is
+  refused (Commit refusal) ready is = is
   refused Missing ready is = is
+
+made_or_not : (base : List ℕ) (m : Area) (new : Option Area) → ((now : Area) × (new ≡ Some now) × IsFirstArea base m now) → (new ≡ Some m) ⊎ IsMade base m new
+made_or_not base m new (now, is, inl same) = inl (is ∙ ap Some same)
+made_or_not base m new (now, is, inr (none, made)) = inr (none, is ∙ ap Some made)
+
+-- a catalog that wasn't made
+pub not_made : (e : InitErr) (base : List ℕ) (old new : Option Area) → ((m : Area) → old ≡ Some m → e ≡ error.Already → IsSome (get m index_name) × (new ≡ Some m))
+    → ((m : Area) → old ≡ Some m → (now : Area) × (new ≡ Some now) × IsFirstArea base m now) → Inits base old (init_answer e) new
+not_made error.Fault base old new already left = intro old (λ m. (new ≡ Some m) ⊎ IsMade base m new) (λ m is. made_or_not base m new (left m is))
+not_made error.Already base old new already left = intro old (λ m. IsSome (get m index_name) × (new ≡ Some m)) (λ m is. already m is refl)
+not_made error.Memory base old new already left = intro old (λ m. (new ≡ Some m) ⊎ IsMade base m new) (λ m is. made_or_not base m new (left m is))
 
 pub init_accepts : {B : Type 0} (m : Members B) (base : List ℕ) → Accepts (init_meaning m base)
 init_accepts m base = record {

@@ -11,6 +11,8 @@ use Rattle.feed_app.specs.Gets.{asked_under, get_reach}
 use Rattle.feed_app.specs.Hives.{KeepsOthers, by_hive, hive_area, hive_stores}
 use Rattle.feed_app.specs.Jobs.{job_reach}
 use Rattle.feed_app.specs.Outside.{AreaRose, Members, area_of, held}
+use Rattle.feed_app.specs.Spelled.{StaysSpelled}
+use Rattle.feed_app.specs.declared.area.AreaName.TheVariants as area
 
 module _ {B : Type 0} (m : Members B) (before after : Stores B) where
   -- a hive's store is that of its area
@@ -23,6 +25,12 @@ module _ {B : Type 0} (m : Members B) (before after : Stores B) where
   of_area Plain rose = rose
   of_area SemVer2 rose = rose
   of_area Content rose = rose
+
+-- the catalog's area is no hive's
+pub no_hive_area : (hive : ServedHive) → area.Catalog ≡ hive_area hive → ⊥
+no_hive_area Plain is = cc is
+no_hive_area SemVer2 is = cc is
+no_hive_area Content is = cc is
 
 -- a job touches the catalog's area and the hive's
 pub job_touches : (hive : ServedHive) → Touches (job_reach hive).catalog × Touches (touch_of (job_reach hive) (hive_area hive))
@@ -97,7 +105,7 @@ module _ {B : Type 0} (plain semver2 content other : B) where
   but_content Content not = absurd (not refl)
 
 -- a job that leaves the other hives' stores leaves all that isn't in its reach
-pub job_keeps : {B : Type 0} (m : Members B) (before after : Stores B) (hive : ServedHive) → held m after.catalog ≡ held m before.catalog
+pub job_keeps : {B : Type 0} (m : Members B) (before after : Stores B) (hive : ServedHive) → StaysSpelled (m.seen before.catalog) (m.seen after.catalog)
     → KeepsOthers hive (hive_stores before) (hive_stores after) → after.auto ≡ before.auto → Keeps m (job_reach hive) before after
 job_keeps m before after Plain catalog others auto = record {
   catalog = catalog;

@@ -5,8 +5,10 @@ use Rattle.feed_paths.specs.Hives.{hive_word}
 use Rattle.feed_paths.specs.declared.hives.ServedHive.{ServedHive}
 use Rattle.feed_app.specs.declared.answer.Answer.{Answer}
 use Rattle.feed_app.specs.declared.answer.Answer.TheVariants.{Done, Usage, Refused, Fault, FaultInput, Damaged, TooLong, Memory}
+use Rattle.feed_app.specs.declared.answer.CommitRefusal.{CommitRefusal}
+use Rattle.feed_app.specs.declared.answer.CommitRefusal.TheVariants.{Exists, Absent, Already, Twice, IdFull, Full, ClockEnd, Empty, TooMany}
 use Rattle.feed_app.specs.declared.answer.Refusal.{Refusal}
-use Rattle.feed_app.specs.declared.answer.Refusal.TheVariants.{Initialised, Uninitialised, UnsupportedBody, UnsupportedCatalog, UnsupportedPath, UnsupportedArea, Exists, ClockEnd, Missing}
+use Rattle.feed_app.specs.declared.answer.Refusal.TheVariants.{Initialised, Uninitialised, UnsupportedBody, UnsupportedCatalog, UnsupportedPath, UnsupportedArea, Commit, Missing}
 use Rattle.feed_app.specs.declared.answer.Reply.{Reply}
 use Rattle.feed_app.specs.declared.answer.Reply.TheVariants as reply
 use Rattle.feed_app.specs.declared.area.AreaName.{AreaName}
@@ -36,9 +38,25 @@ reply_text (reply.Built hive number) = job_text (codes "done") hive number
 reply_text (reply.Idle hive number) = job_text (codes "idle") hive number
 reply_text (reply.Document bytes) = bytes
 
--- the place of the change whose version is there, and the number of the version's last commit
-abbrev pub exists_text : ℕ → ℕ → List ℕ
-exists_text place number = codes "refused exists " ++ (decimal place ++ (codes " " ++ (decimal number ++ codes "\n")))
+-- the place of a change, and the number of its version's last commit
+abbrev pub placed_text : List ℕ → ℕ → ℕ → List ℕ
+placed_text word place number = codes "refused " ++ (word ++ (codes " " ++ (decimal place ++ (codes " " ++ (decimal number ++ codes "\n")))))
+
+-- a place or a count
+abbrev pub counted_text : List ℕ → ℕ → List ℕ
+counted_text word number = codes "refused " ++ (word ++ (codes " " ++ (decimal number ++ codes "\n")))
+
+-- the line for changes that may not be committed
+abbrev pub commit_refusal_text : CommitRefusal → List ℕ
+commit_refusal_text (Exists place number) = placed_text (codes "exists") place number
+commit_refusal_text (Absent place number) = placed_text (codes "absent") place number
+commit_refusal_text (Already place number) = placed_text (codes "already") place number
+commit_refusal_text (Twice place) = counted_text (codes "twice") place
+commit_refusal_text (IdFull place) = counted_text (codes "idfull") place
+commit_refusal_text (Full items) = counted_text (codes "full") items
+commit_refusal_text ClockEnd = codes "refused clockend\n"
+commit_refusal_text Empty = codes "refused empty\n"
+commit_refusal_text (TooMany count) = counted_text (codes "toomany") count
 
 -- the line for a refusal
 abbrev pub refusal_text : Refusal → List ℕ
@@ -48,8 +66,7 @@ refusal_text UnsupportedBody = codes "refused unsupported\n"
 refusal_text UnsupportedCatalog = codes "refused unsupported\n"
 refusal_text UnsupportedPath = codes "refused unsupported\n"
 refusal_text UnsupportedArea = codes "refused unsupported\n"
-refusal_text (Exists place number) = exists_text place number
-refusal_text ClockEnd = codes "refused clockend\n"
+refusal_text (Commit refusal) = commit_refusal_text refusal
 refusal_text Missing = codes "refused missing\n"
 
 -- the line for a fault of an area's store

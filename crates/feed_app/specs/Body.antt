@@ -1,11 +1,25 @@
 -- A publish's body: one record, whose metadata is bare.
-use Rattle.std.specs.Prelude.{◌≡◌, ◌<◌, ◌^◌, ℕ, List, [], ◌++◌, length, codes, decimal}
+use Rattle.std.specs.Prelude.{◌≡◌, ◌<◌, ◌^◌, ℕ, List, [], ◌++◌, length, codes, decimal, None}
 use Rattle.pkg_meta.specs.declared.meta.Meta.{Meta}
-use Rattle.catalog_core.specs.Plain.{IsAlone}
 
 -- three numbers joined by dots
 abbrev pub triple : ℕ → ℕ → ℕ → List ℕ
 triple major minor patch = decimal major ++ (codes "." ++ (decimal minor ++ (codes "." ++ decimal patch)))
+
+-- the members beside id and version are absent
+pub record IsAlone (m : Meta) : Type 0 where
+  pub authors : m.authors ≡ None
+  pub description : m.description ≡ None
+  pub icon_url : m.icon_url ≡ None
+  pub license_url : m.license_url ≡ None
+  pub min_client : m.min_client ≡ None
+  pub project_url : m.project_url ≡ None
+  pub release_notes : m.release_notes ≡ None
+  pub summary : m.summary ≡ None
+  pub title : m.title ≡ None
+  pub require_license : m.require_license ≡ None
+  pub tags : m.tags ≡ []
+  pub groups : m.groups ≡ []
 
 -- the bytes are `{"id":"<id>","version":"<version>"}`, of an id and of a version of three numbers alone, and say nothing else
 pub record IsBare (bytes : List ℕ) (m : Meta) : Type 0 where

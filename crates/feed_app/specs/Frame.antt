@@ -1,14 +1,9 @@
 -- What a command may touch, and why an answer comes: said once for all commands.
-use Rattle.std.specs.Prelude.{◌≡◌, ◌<◌, ◌⊎◌, ℕ, List, length, Option, None, IfSome, IsSome, ⊤}
-use Rattle.std.specs.FinMap.{get}
-use Rattle.blob_store.specs.Area.{Area}
-use Rattle.pkg_meta.specs.Catalog.{Catalog}
-use Rattle.catalog_doc.specs.CatDocs.{doc_at}
-use Rattle.catalog_doc.specs.declared.row.Row.{Row}
-use Rattle.catalog_core.specs.Opened.{IsFound, IsOpened}
+use Rattle.std.specs.Prelude.{◌≡◌, ◌<◌, length, IfSome, ℕ, ⊤}
+use Rattle.blob_store.specs.Seen.{Seen}
 use Rattle.catalog_core.specs.declared.stores.Stores.{Stores}
-use Rattle.job_round.specs.Round.{IsMissing}
 use Rattle.feed_app.specs.Outside.{Members, Sight, Rose, AreaRose, area_of, held}
+use Rattle.feed_app.specs.Spelled.{ForSpelled, StaysSpelled}
 use Rattle.feed_app.specs.declared.answer.Answer.{Answer}
 use Rattle.feed_app.specs.declared.answer.Answer.TheVariants.{Usage, Fault, FaultInput, Damaged, TooLong}
 use Rattle.feed_app.specs.declared.area.AreaName.{AreaName}
@@ -18,10 +13,11 @@ use Rattle.feed_app.specs.declared.area.AreaName.TheVariants as area
 abbrev pub most_input : ℕ
 most_input = 67108864
 
--- what may become of a part: nothing, or it is asked, or changed
+-- what may become of a part: nothing, or it is asked, or its catalog is opened, or it is changed
 pub data Touch : Type 0 where
   Nothing : Touch
   Asks : Touch
+  Opens : Touch
   Changes : Touch
 
 -- what may become of each part; no command touches the output
@@ -47,12 +43,14 @@ touch_of reach area.Auto = reach.auto
 abbrev pub Touches : Touch → Type 0
 Touches Nothing = ⊥
 Touches Asks = ⊤
+Touches Opens = ⊤
 Touches Changes = ⊤
 
--- a store that isn't touched is the same value, and one that is only asked holds the same
+-- a store that isn't touched is the same value, one that is only asked holds the same, and one whose catalog is opened spells the same
 abbrev pub KeepsArea : {B : Type 0} → Members B → Touch → B → B → Type 0
 KeepsArea m Nothing old new = new ≡ old
 KeepsArea m Asks old new = held m new ≡ held m old
+KeepsArea m Opens old new = StaysSpelled (m.seen old) (m.seen new)
 KeepsArea m Changes old new = ⊤
 
 -- each area that isn't within reach is as it was
@@ -67,27 +65,20 @@ pub record Keeps {B : Type 0} (m : Members B) (reach : Reach) (before after : St
 abbrev pub KeepsValue : {A : Type 0} → Touch → A → A → Type 0
 KeepsValue Nothing old new = new ≡ old
 KeepsValue Asks old new = ⊤
+KeepsValue Opens old new = ⊤
 KeepsValue Changes old new = ⊤
 
--- the catalog that the area holds has a document of this name, and the area doesn't hold it
-abbrev pub IsLostDocument : Option Area → List ℕ → Type 0
-IsLostDocument told name = ((base : List ℕ) × (cs : Catalog) × IsFound told base cs × IsSome (doc_at base cs name)) × IfSome told (λ m. get m name ≡ None)
-
--- it has an item whose leaf the area doesn't hold as such, or a publish's file of this name isn't held
-abbrev pub IsLostBlob : Option Area → List ℕ → Type 0
-IsLostBlob told name = (base : List ℕ) × (rows : List Row) × IsOpened told base rows × IsMissing told base rows name
-
--- a blob of this area isn't held as the catalog has it
-abbrev pub IsLost : AreaName → Option Area → List ℕ → Type 0
-IsLost area.Catalog told name = IsLostDocument told name ⊎ IsLostBlob told name
-IsLost _ told name = ⊥
+-- the area spells no catalog
+abbrev pub IsLost : AreaName → Seen → Type 0
+IsLost area.Catalog s = ForSpelled s (λ base cs. ⊥)
+IsLost _ s = ⊥
 
 -- why an answer of this kind came
 abbrev pub Explains : {B : Type 0} → Members B → Reach → Sight B → Answer → Sight B → Type 0
 Explains m reach before Usage after = ⊥
 Explains m reach before (Fault name) after = Touches (touch_of reach name) × AreaRose m (area_of before.stores name) (area_of after.stores name)
 Explains m reach before FaultInput after = Touches reach.input × Rose before.input after.input
-Explains m reach before (Damaged name blob) after = Touches (touch_of reach name) × IsLost name (held m (area_of before.stores name)) blob
+Explains m reach before (Damaged name blob) after = Touches (touch_of reach name) × IsLost name (m.seen (area_of before.stores name))
 Explains m reach before TooLong after = Touches reach.input × IfSome before.input.told (λ body. most_input < length body)
 Explains m reach before _ after = ⊤
 

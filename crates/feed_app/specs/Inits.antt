@@ -23,7 +23,7 @@ IsLeft base old new = IfSome old (λ m. (new ≡ Some m) ⊎ IsMade base m new)
 -- what `init` answers, and what it leaves in the catalog's area
 abbrev pub Inits : List ℕ → Option Area → Answer → Option Area → Type 0
 Inits base old (Done reply.Initialised) new = IfSome old (λ m. IsMade base m new)
-Inits base old (Refused Initialised) new = IfSome old (λ m. IsSome (get m index_name)) × (new ≡ old)
+Inits base old (Refused Initialised) new = IfSome old (λ m. IsSome (get m index_name) × (new ≡ Some m))
 Inits base old (Fault area.Catalog) new = IsLeft base old new
 Inits base old Memory new = IsLeft base old new
 Inits base old _ new = ⊥

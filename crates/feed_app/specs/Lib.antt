@@ -7,7 +7,6 @@ pub mod Commands
 pub mod Cuts
 pub mod Does
 pub mod Frame
-pub mod Fronts
 pub mod Gets
 pub mod Hives
 pub mod Inits
@@ -16,4 +15,5 @@ pub mod Openings
 pub mod Outside
 pub mod Publishes
 pub mod Runs
+pub mod Spelled
 pub mod Writes

@@ -1,7 +1,7 @@
 // The answers of all commands, with their texts and statuses.
 ghost use Rattle.std.specs.Prelude.{◌≡◌, IfOk};
 ghost use Rattle.std.specs.Cow.{cow_slice_items};
-ghost use Rattle.feed_app.specs.Answers.{committed_text, damaged_text, exists_text, fault_text, job_text};
+ghost use Rattle.feed_app.specs.Answers.{committed_text, counted_text, damaged_text, fault_text, job_text, placed_text};
 
 use crate::area::AreaName;
 use feed_paths::ServedHive;
@@ -24,6 +24,29 @@ pub enum Reply {
     Document(Bytes),
 }
 
+/// Why changes may not be committed. A place is that of a change, and a number with it that of the version's last commit.
+#[derive(Clone, Copy, Debug, PartialEq, Eq)]
+pub enum CommitRefusal {
+    /// The publish's version is there.
+    Exists { place: u32, number: u32 },
+    /// The change's version isn't there.
+    Absent { place: u32, number: u32 },
+    /// The change's version has that listing.
+    Already { place: u32, number: u32 },
+    /// An earlier change is of the same version.
+    Twice(u32),
+    /// The publish's id has as many versions as it may have.
+    IdFull(u32),
+    /// The catalog has this many items, and no room for more.
+    Full(u32),
+    /// There is no moment after the last commit's.
+    ClockEnd,
+    /// There are no changes.
+    Empty,
+    /// There are this many changes, too many for a commit.
+    TooMany(u64),
+}
+
 /// Why a command that has a meaning was refused.
 #[derive(Clone, Copy, Debug, PartialEq, Eq)]
 pub enum Refusal {
@@ -33,16 +56,14 @@ pub enum Refusal {
     Uninitialised,
     /// The body isn't a publish that this program reads.
     UnsupportedBody,
-    /// The catalog isn't one that this program opens, or it is full.
+    /// The catalog is of another base address.
     UnsupportedCatalog,
     /// The path names something that isn't answered yet.
     UnsupportedPath,
     /// The hive is built already.
     UnsupportedArea,
-    /// The version is there: the change's place, and the number of the version's last commit.
-    Exists { place: u32, number: u32 },
-    /// There is no moment after the last commit's.
-    ClockEnd,
+    /// The changes may not be committed.
+    Commit(CommitRefusal),
     /// There is no such document.
     Missing,
 }
@@ -81,14 +102,26 @@ fn committed_line<'a>(
     Ok(CowSlice::Owned(line.into_bytes()))
 }
 
-fn exists_line<'a>(
+fn placed_line<'a>(
     alloc: Global,
+    word: &str,
     place: u32,
     number: u32,
 ) -> Result<CowSlice<'a, u8, Global>, NoMemory>
-    ensures { IfOk result (λ line. cow_slice_items line ≡ exists_text place number) }
+    ensures { IfOk result (λ line. cow_slice_items line ≡ placed_text word.now place number) }
 {
-    let line = format!(in alloc; "refused exists {place} {number}\n")?;
+    let line = format!(in alloc; "refused {word} {place} {number}\n")?;
+    Ok(CowSlice::Owned(line.into_bytes()))
+}
+
+fn counted_line<'a>(
+    alloc: Global,
+    word: &str,
+    number: u64,
+) -> Result<CowSlice<'a, u8, Global>, NoMemory>
+    ensures { IfOk result (λ line. cow_slice_items line ≡ counted_text word.now number) }
+{
+    let line = format!(in alloc; "refused {word} {number}\n")?;
     Ok(CowSlice::Owned(line.into_bytes()))
 }
 
@@ -142,6 +175,28 @@ impl Reply {
     }
 }
 
+impl CommitRefusal {
+    ghost use Rattle.feed_app.specs.Answers.{commit_refusal_text};
+
+    fn text<'a>(self, alloc: Global) -> Result<CowSlice<'a, u8, Global>, NoMemory>
+        ensures { IfOk result (λ text. cow_slice_items text ≡ commit_refusal_text self) }
+    {
+        match self {
+            CommitRefusal::Exists { place, number } => placed_line(alloc, "exists", place, number),
+            CommitRefusal::Absent { place, number } => placed_line(alloc, "absent", place, number),
+            CommitRefusal::Already { place, number } => placed_line(
+                alloc, "already", place, number,
+            ),
+            CommitRefusal::Twice(place) => counted_line(alloc, "twice", place as u64),
+            CommitRefusal::IdFull(place) => counted_line(alloc, "idfull", place as u64),
+            CommitRefusal::Full(items) => counted_line(alloc, "full", items as u64),
+            CommitRefusal::ClockEnd => Ok(CowSlice::Borrowed("refused clockend\n".as_bytes())),
+            CommitRefusal::Empty => Ok(CowSlice::Borrowed("refused empty\n".as_bytes())),
+            CommitRefusal::TooMany(count) => counted_line(alloc, "toomany", count),
+        }
+    }
+}
+
 impl Refusal {
     ghost use Rattle.feed_app.specs.Answers.{refusal_text};
 
@@ -149,12 +204,11 @@ impl Refusal {
         ensures { IfOk result (λ text. cow_slice_items text ≡ refusal_text self) }
     {
         let line = match self {
-            Refusal::Exists { place, number } => return exists_line(alloc, place, number),
+            Refusal::Commit(refusal) => return refusal.text(alloc),
             Refusal::Initialised => "refused initialised\n",
             Refusal::Uninitialised => "refused uninitialised\n",
             Refusal::UnsupportedBody | Refusal::UnsupportedCatalog => "refused unsupported\n",
             Refusal::UnsupportedPath | Refusal::UnsupportedArea => "refused unsupported\n",
-            Refusal::ClockEnd => "refused clockend\n",
             Refusal::Missing => "refused missing\n",
         };
         Ok(CowSlice::Borrowed(line.as_bytes()))

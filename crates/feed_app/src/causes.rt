@@ -1,7 +1,7 @@
 // The answers for what a lower call answers.
 ghost use Rattle.std.specs.Prelude.{◌≡◌};
 
-use crate::answer::{Answer, Refusal};
+use crate::answer::{Answer, CommitRefusal, Refusal};
 use crate::area::AreaName;
 use catalog_core::{CommitErr, InitErr, OpenErr, ReadErr};
 use feed_base::TakeErr;
@@ -39,7 +39,8 @@ impl Answer {
         match error {
             OpenErr::Fault => Answer::Fault(AreaName::Catalog),
             OpenErr::Missing => Answer::Refused(Refusal::Uninitialised),
-            OpenErr::Unsupported => Answer::Refused(Refusal::UnsupportedCatalog),
+            OpenErr::Damaged(name) => Answer::Damaged(AreaName::Catalog, name),
+            OpenErr::BaseDiffers(..) => Answer::Refused(Refusal::UnsupportedCatalog),
             OpenErr::Memory => Answer::Memory,
         }
     }
@@ -48,13 +49,22 @@ impl Answer {
     pub(crate) fn of_commit(error: CommitErr) -> Answer
         ensures { result ≡ commit_answer error }
     {
-        match error {
-            CommitErr::Exists(place, number) => Answer::Refused(Refusal::Exists { place, number }),
-            CommitErr::Unsupported => Answer::Refused(Refusal::UnsupportedCatalog),
-            CommitErr::ClockEnd => Answer::Refused(Refusal::ClockEnd),
-            CommitErr::Fault => Answer::Fault(AreaName::Catalog),
-            CommitErr::Memory => Answer::Memory,
-        }
+        let refusal = match error {
+            CommitErr::Fault => return Answer::Fault(AreaName::Catalog),
+            CommitErr::Damaged(name) => return Answer::Damaged(AreaName::Catalog, name),
+            CommitErr::Memory => return Answer::Memory,
+            CommitErr::Unsupported => return Answer::Refused(Refusal::UnsupportedCatalog),
+            CommitErr::Exists(place, number) => CommitRefusal::Exists { place, number },
+            CommitErr::Absent(place, number) => CommitRefusal::Absent { place, number },
+            CommitErr::Already(place, number) => CommitRefusal::Already { place, number },
+            CommitErr::Twice(place) => CommitRefusal::Twice(place),
+            CommitErr::IdFull(place) => CommitRefusal::IdFull(place),
+            CommitErr::Full(items) => CommitRefusal::Full(items),
+            CommitErr::ClockEnd => CommitRefusal::ClockEnd,
+            CommitErr::Empty => CommitRefusal::Empty,
+            CommitErr::TooMany(count) => CommitRefusal::TooMany(count),
+        };
+        Answer::Refused(Refusal::Commit(refusal))
     }
 
     /// The answer for a blob of the catalog that wasn't read.

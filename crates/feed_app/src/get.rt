@@ -1,13 +1,17 @@
 // The command `get`.
-ghost use Rattle.std.specs.Prelude.{◌≡◌, ◌≤◌, ℕ, List, Option};
+ghost use Rattle.std.specs.Prelude.{◌≡◌, ℕ, List, Option};
 ghost use Rattle.feed_base.specs.Counts.{HasRisen};
-ghost use Rattle.catalog_core.specs.Verdicts.{ForCatalogsOf};
+ghost use Rattle.pkg_meta.specs.declared.commit.Stored.{Stored};
+ghost use Rattle.catalog_doc.specs.CatDocs.{doc_at};
+ghost use Rattle.catalog_core.specs.Framing.{StaysOpen};
+ghost use Rattle.catalog_core.specs.Opened.{IsOpenFor};
 ghost use Rattle.feed_paths.specs.Paths.{without_query};
 ghost use Rattle.feed_paths.specs.declared.hives.ServedHive.{ServedHive};
 ghost use Rattle.feed_app.specs.Frame.{IsDone, KeepsArea};
-ghost use Rattle.feed_app.specs.Gets.{OfCatalog, OfHive, Reads, asked_under, get_meaning};
+ghost use Rattle.feed_app.specs.Gets.{IsOfCatalog, OfDocument, OfHive, Reads, asked_under, get_meaning};
 ghost use Rattle.feed_app.specs.Hives.{by_hive, hive_area};
 ghost use Rattle.feed_app.specs.Outside.{AreaRose, Stream, over};
+ghost use Rattle.feed_app.specs.Spelled.{IsOpenAs};
 
 use crate::answer::{Answer, Refusal, Reply};
 use crate::area::AreaName;
@@ -19,11 +23,10 @@ use std::alloc::Global;
 
 // The catalog's document of this name.
 fn catalog_document<B: Blobs>(alloc: Global, catalog: &mut Catalog<B>, name: &str) -> Answer
-    ensures is { ForCatalogsOf catalog.old.rows (λ cs. OfCatalog result name.now catalog.old.base cs (B.seen catalog.old.area).held) }
-    ensures cause { result ≡ Answer.Fault AreaName.Catalog → HasRisen (B.seen catalog.old.area).faults (B.seen catalog.new.area).faults }
+    ensures kind { IsOfCatalog result }
+    ensures is { (cs : List Stored) → IsOpenFor catalog.old (B.seen catalog.old.area) cs → OfDocument result (doc_at catalog.old.base cs name.now) }
+    ensures stays { StaysOpen catalog.old catalog.new (B.seen catalog.old.area) (B.seen catalog.new.area) (result ≡ Answer.Fault AreaName.Catalog) }
     ensures other { (hive : ServedHive) → result ≡ Answer.Fault (hive_area hive) → ⊥ }
-    ensures same { (B.seen catalog.new.area).held ≡ (B.seen catalog.old.area).held }
-    ensures later { (B.seen catalog.old.area).faults ≤ (B.seen catalog.new.area).faults }
 {
     match catalog.doc(alloc, name) {
         Ok(Some(bytes)) => Answer::Done(Reply::Document(bytes)),
@@ -58,15 +61,13 @@ fn document<B: Blobs>(
     content: &mut B,
     path: &str,
 ) -> Answer
-    ensures is { ForCatalogsOf catalog.old.rows (λ cs. Reads B.Blobs result (without_query path.now) catalog.old.base cs (B.seen catalog.old.area).held
-        (by_hive plain.old semver2.old content.old) (by_hive plain.new semver2.new content.new)) }
-    ensures catalog_cause { result ≡ Answer.Fault AreaName.Catalog → HasRisen (B.seen catalog.old.area).faults (B.seen catalog.new.area).faults }
+    ensures is { Reads B.Blobs result (without_query path.now) (IsOpenAs catalog.old (B.seen catalog.old.area))
+        (by_hive plain.old semver2.old content.old) (by_hive plain.new semver2.new content.new) }
+    ensures stays { StaysOpen catalog.old catalog.new (B.seen catalog.old.area) (B.seen catalog.new.area) (result ≡ Answer.Fault AreaName.Catalog) }
     ensures hive_cause { (hive : ServedHive) → result ≡ Answer.Fault (hive_area hive)
         → AreaRose B.Blobs (by_hive plain.old semver2.old content.old hive) (by_hive plain.new semver2.new content.new hive) }
     ensures keeps { (hive : ServedHive) → KeepsArea B.Blobs (asked_under (without_query path.now) hive)
         (by_hive plain.old semver2.old content.old hive) (by_hive plain.new semver2.new content.new hive) }
-    ensures same { (B.seen catalog.new.area).held ≡ (B.seen catalog.old.area).held }
-    ensures later { (B.seen catalog.old.area).faults ≤ (B.seen catalog.new.area).faults }
 {
     match target_of(alloc, path) {
         Ok(Target::Catalog(name)) => catalog_document(alloc, catalog, name),
@@ -87,7 +88,7 @@ pub(crate) fn get<B: Blobs>(alloc: Global, stores: Stores<B>, path: &str) -> (An
         → IsDone B.Blobs (get_meaning B.Blobs path.now) (over stores input clock) result.0 (over result.1 input clock) }
 {
     let mut stores = stores;
-    match open_catalog(alloc, stores.catalog) {
+    match open_catalog(alloc, stores.catalog, None) {
         Ok(catalog) => {
             let mut catalog = catalog;
             let answer = document(

@@ -1,10 +1,12 @@
 // The command `job`.
-ghost use Rattle.std.specs.Prelude.{◌≡◌, ◌≤◌, ℕ, List, Option};
+ghost use Rattle.std.specs.Prelude.{◌≡◌, ℕ, List, Option};
 ghost use Rattle.feed_base.specs.Counts.{HasRisen};
+ghost use Rattle.catalog_core.specs.Framing.{StaysOpen};
 ghost use Rattle.feed_app.specs.Frame.{IsDone};
 ghost use Rattle.feed_app.specs.Hives.{KeepsOthers, by_hive, hive_area, keeps_in, makes_in};
-ghost use Rattle.feed_app.specs.Jobs.{Builds, ForPlain, job_meaning};
+ghost use Rattle.feed_app.specs.Jobs.{Builds, job_meaning};
 ghost use Rattle.feed_app.specs.Outside.{AreaRose, Stream, held, over};
+ghost use Rattle.feed_app.specs.Spelled.{IsOpenAs};
 
 use crate::answer::{Answer, Reply};
 use crate::area::AreaName;
@@ -24,12 +26,10 @@ fn job_in<H: Hive, B: Blobs>(
     area: &mut B,
     hive: ServedHive,
 ) -> Answer
-    ensures is { ForPlain catalog.old.rows (λ cs.
-        Builds H.keeps H.makes hive result catalog.old.base cs (B.seen catalog.old.area).held (B.seen area.old).held (B.seen area.new).held) }
-    ensures catalog_cause { result ≡ Answer.Fault AreaName.Catalog → HasRisen (B.seen catalog.old.area).faults (B.seen catalog.new.area).faults }
+    ensures is { Builds H.keeps H.makes hive result (B.seen catalog.old.area).held (IsOpenAs catalog.old (B.seen catalog.old.area))
+        (B.seen area.old).held (B.seen area.new).held }
+    ensures stays { StaysOpen catalog.old catalog.new (B.seen catalog.old.area) (B.seen catalog.new.area) (result ≡ Answer.Fault AreaName.Catalog) }
     ensures hive_cause { result ≡ Answer.Fault (hive_area hive) → HasRisen (B.seen area.old).faults (B.seen area.new).faults }
-    ensures same { (B.seen catalog.new.area).held ≡ (B.seen catalog.old.area).held }
-    ensures later { (B.seen catalog.old.area).faults ≤ (B.seen catalog.new.area).faults }
 {
     match build_once::<H, B>(alloc, catalog, area) {
         Ok(RoundOut::Done(number)) => Answer::Done(Reply::Built(hive, number)),
@@ -47,14 +47,12 @@ fn job_of<B: Blobs>(
     content: &mut B,
     hive: ServedHive,
 ) -> Answer
-    ensures is { ForPlain catalog.old.rows (λ cs. Builds (keeps_in hive) (makes_in hive) hive result catalog.old.base cs (B.seen catalog.old.area).held
-        (held B.Blobs (by_hive plain.old semver2.old content.old hive)) (held B.Blobs (by_hive plain.new semver2.new content.new hive))) }
-    ensures catalog_cause { result ≡ Answer.Fault AreaName.Catalog → HasRisen (B.seen catalog.old.area).faults (B.seen catalog.new.area).faults }
+    ensures is { Builds (keeps_in hive) (makes_in hive) hive result (B.seen catalog.old.area).held (IsOpenAs catalog.old (B.seen catalog.old.area))
+        (held B.Blobs (by_hive plain.old semver2.old content.old hive)) (held B.Blobs (by_hive plain.new semver2.new content.new hive)) }
+    ensures stays { StaysOpen catalog.old catalog.new (B.seen catalog.old.area) (B.seen catalog.new.area) (result ≡ Answer.Fault AreaName.Catalog) }
     ensures hive_cause { result ≡ Answer.Fault (hive_area hive)
         → AreaRose B.Blobs (by_hive plain.old semver2.old content.old hive) (by_hive plain.new semver2.new content.new hive) }
     ensures others { KeepsOthers hive (by_hive plain.old semver2.old content.old) (by_hive plain.new semver2.new content.new) }
-    ensures same { (B.seen catalog.new.area).held ≡ (B.seen catalog.old.area).held }
-    ensures later { (B.seen catalog.old.area).faults ≤ (B.seen catalog.new.area).faults }
 {
     match hive {
         ServedHive::Plain => job_in::<Plain, B>(alloc, catalog, plain, hive),
@@ -73,7 +71,7 @@ pub(crate) fn job<B: Blobs>(
         → IsDone B.Blobs (job_meaning B.Blobs hive) (over stores input clock) result.0 (over result.1 input clock) }
 {
     let mut stores = stores;
-    match open_catalog(alloc, stores.catalog) {
+    match open_catalog(alloc, stores.catalog, None) {
         Ok(catalog) => {
             let mut catalog = catalog;
             let answer = job_of(

@@ -3,7 +3,7 @@ ghost use Rattle.std.specs.Prelude.{◌≡◌, ◌⊎◌, ◌<◌, ℕ, List, le
 ghost use Rattle.feed_app.specs.Commands.{Command, command_of};
 ghost use Rattle.feed_app.specs.Does.{meaning, reach_of};
 ghost use Rattle.feed_app.specs.Frame.{IsLost, Keeps, KeepsValue, Touches, most_input};
-ghost use Rattle.feed_app.specs.Outside.{AreaRose, Outside, Rose, area_of, bounds, held, input_of, output_of};
+ghost use Rattle.feed_app.specs.Outside.{AreaRose, Outside, Rose, area_of, bounds, input_of, output_of};
 ghost use Rattle.feed_app.specs.Runs.{IsGood, IsQuiet, IsReady, IsTouchedBy, Runs};
 ghost use Rattle.feed_app.specs.declared.area.AreaName.{AreaName};
 
@@ -21,7 +21,7 @@ pub fn answers_usage<B: Blobs, I: Source, O: Sink, C: Clock>()
 {}
 
 /// Status 3 comes only for words with a meaning, 4 only where the count of an area that the command touches rose, 5 only
-/// where that of the input or the output did, 6 only where an area that the command touches lacks a blob of its catalog,
+/// where that of the input or the output did, 6 only where the command touches the catalog's area, and that spells no catalog,
 /// and 7 only for a command that reads the input, where that is too long.
 pub fn explains_statuses<B: Blobs, I: Source, O: Sink, C: Clock>()
     ensures refused { let b = bounds B.Blobs I.Source O.Sink C.Clock in (words : List (List ℕ)) (before after : Outside B I O C) (status : ℕ) → Runs b words before status after
@@ -31,7 +31,7 @@ pub fn explains_statuses<B: Blobs, I: Source, O: Sink, C: Clock>()
     ensures stream { let b = bounds B.Blobs I.Source O.Sink C.Clock in (words : List (List ℕ)) (before after : Outside B I O C) (status : ℕ) → Runs b words before status after
         → status ≡ 5 → Rose (input_of b.source before.input) (input_of b.source after.input) ⊎ Rose (output_of b.sink before.output) (output_of b.sink after.output) }
     ensures damaged { let b = bounds B.Blobs I.Source O.Sink C.Clock in (words : List (List ℕ)) (before after : Outside B I O C) (status : ℕ) → Runs b words before status after
-        → status ≡ 6 → (name : AreaName) × (blob : List ℕ) × IsTouchedBy b.blobs words name × IsLost name (held b.blobs (area_of before.stores name)) blob }
+        → status ≡ 6 → (name : AreaName) × IsTouchedBy b.blobs words name × IsLost name (b.blobs.seen (area_of before.stores name)) }
     ensures too_long { let b = bounds B.Blobs I.Source O.Sink C.Clock in (words : List (List ℕ)) (before after : Outside B I O C) (status : ℕ) → Runs b words before status after
         → status ≡ 7 → (command : Command) × (command_of words ≡ Some command) × Touches (meaning b.blobs command).reach.input × IfSome (b.source.left before.input) (λ body. most_input < length body) }
 {}

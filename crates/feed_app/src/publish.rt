@@ -51,10 +51,10 @@ fn publish_into<B: Blobs, C: Clock>(
     publish: Publish,
     clock: &mut C,
 ) -> (Answer, B)
-    ensures ends { Ends result.0 publish.meta publish.nuspec publish.nupkg (B.seen area).held (B.seen result.1).held (C.answers clock.old) (C.answers clock.new) }
+    ensures ends { Ends result.0 (changes_of publish.meta publish.nuspec publish.nupkg) (B.seen area) (B.seen result.1) (C.answers clock.old) (C.answers clock.new) }
     ensures cause { result.0 ≡ Answer.Fault AreaName.Catalog → HasRisen (B.seen area).faults (B.seen result.1).faults }
 {
-    let mut catalog = match open_catalog(alloc, area) {
+    let mut catalog = match open_catalog(alloc, area, None) {
         Ok(catalog) => catalog,
         Err((error, area)) => return (Answer::of_opening(error), area),
     };

@@ -1,52 +1,36 @@
-// What holds of a publish that was committed.
-ghost use Rattle.std.specs.Prelude.{◌≡◌, ◌≤◌, ℕ, List, [], ◌∷◌, ◌++◌, None, Some, IsUtf8};
-ghost use Rattle.std.specs.FinMap.{get};
-ghost use Rattle.blob_store.specs.Area.{Area, with_blob};
-ghost use Rattle.blob_store.specs.Runs.{after_calls, IsAfterSome};
-ghost use Rattle.pkg_meta.specs.Catalog.{Catalog};
-ghost use Rattle.pkg_meta.specs.declared.commit.Stored.{Stored};
-ghost use Rattle.pkg_meta.specs.declared.meta.Meta.{Meta};
-ghost use Rattle.catalog_doc.specs.CatDocs.{doc_at};
+// What holds of a publish. The functions do nothing.
+ghost use Rattle.std.specs.Prelude.{◌≡◌, ℕ, List, [], Some, IsUtf8};
+ghost use Rattle.std.specs.FinMap.{empty};
+ghost use Rattle.blob_store.specs.Area.{with_blob};
+ghost use Rattle.blob_store.specs.Moments.{LeavesOnly};
+ghost use Rattle.catalog_doc.specs.Catalogs.{IsCatalog};
 ghost use Rattle.catalog_doc.specs.Documents.{index_text};
-ghost use Rattle.catalog_doc.specs.Names.{index_name, page_name};
-ghost use Rattle.catalog_core.specs.Commits.{commit_puts};
-ghost use Rattle.catalog_core.specs.Opened.{IsFound};
-ghost use Rattle.catalog_core.specs.Verdicts.{verdict};
-ghost use Rattle.catalog_core.specs.Whole.{IsWhole};
-ghost use Rattle.feed_app.specs.Body.{IsPublishOf};
-ghost use Rattle.feed_app.specs.Fronts.{HoldsOneOf};
-ghost use Rattle.feed_app.specs.Publishes.{changes_of};
+ghost use Rattle.catalog_doc.specs.Names.{index_name};
+ghost use Rattle.catalog_doc.specs.Spelled.{SpellsCatalog};
+ghost use Rattle.catalog_doc.specs.declared.change.Change.{Change};
+ghost use Rattle.catalog_core.specs.Committing.{MayBeCommitted, with_made, WithOrWithout};
+ghost use Rattle.feed_app.specs.Commands.{Publish, command_of};
+ghost use Rattle.feed_app.specs.Outside.{Outside, bounds};
+ghost use Rattle.feed_app.specs.Runs.{Runs};
+ghost use Rattle.feed_app.specs.Spelled.{ForSpelled, HasCatalog};
 
-/// What a committed publish leaves is the catalog that was there with its commit behind the others, and opens as such:
-/// no commit that was told is lost, and their order stays. Where the area held each leaf, each package and each manifest, it
-/// does so with the new ones. What `init` makes of an area without a first page opens as the catalog of no commits. It does
-/// nothing.
-pub fn publishes_are_found()
-    ensures found { (area : Area) (base : List ℕ) (cs : Catalog) (body nuspec nupkg : List ℕ) (m : Meta) (now : ℕ) (c : Stored)
-        → now ≤ 3_155_378_975_999_999_999 → IsFound (Some area) base cs → IsPublishOf body m nuspec nupkg
-        → verdict cs (changes_of m nuspec nupkg) now ≡ Ok c
-        → IsFound (Some (after_calls (commit_puts base cs c) area)) base (cs ++ c ∷ []) }
-    ensures whole { (area : Area) (base : List ℕ) (cs : Catalog) (m : Meta) (nuspec nupkg : List ℕ) (now : ℕ) (c : Stored)
-        → IsFound (Some area) base cs → IsWhole area base cs → verdict cs (changes_of m nuspec nupkg) now ≡ Ok c
-        → IsWhole (after_calls (commit_puts base cs c) area) base (cs ++ c ∷ []) }
-    ensures init { (area : Area) (base : List ℕ) → IsUtf8 base → get area (page_name 0) ≡ None
-        → IsFound (Some (with_blob index_name (index_text base []) area)) base []
-        × IsWhole (with_blob index_name (index_text base []) area) base [] }
+use blob_store::Blobs;
+use feed_base::{Clock, Sink, Source};
+
+/// A publish of status 0 leaves an area that spells the catalog that was there with one commit behind the others, which the
+/// verdict took: no commit that was told is lost, and their order stays. What `init` makes of an empty area spells the catalog of no commits.
+pub fn publishes_are_found<B: Blobs, I: Source, O: Sink, C: Clock>()
+    ensures found { let b = bounds B.Blobs I.Source O.Sink C.Clock in (words : List (List ℕ)) (before after : Outside B I O C) (status : ℕ) → Runs b words before status after
+        → command_of words ≡ Some Publish → status ≡ 0 → ForSpelled (b.blobs.seen before.stores.catalog) (λ base cs. (changes : List Change) × (now : ℕ)
+        × MayBeCommitted cs changes now × HasCatalog (b.blobs.seen after.stores.catalog) base (with_made cs changes now)) }
+    ensures init { (base : List ℕ) → IsUtf8 base → IsCatalog [] × SpellsCatalog (with_blob index_name (index_text base []) empty) base [] }
 {}
 
-/// Where the puts of a publish stop, by a fault or a crash at any moment, the catalog that was there is held, or that with
-/// the commit, or the page has the commit and only the index is behind. An area that held each leaf, each package and each
-/// manifest still does, with the new ones where the page has the commit. It does nothing.
-pub fn publishes_stop_between()
-    ensures held { (area left : Area) (base : List ℕ) (cs : Catalog) (body nuspec nupkg : List ℕ) (m : Meta) (now : ℕ) (c : Stored)
-        → now ≤ 3_155_378_975_999_999_999 → IsFound (Some area) base cs → IsPublishOf body m nuspec nupkg
-        → verdict cs (changes_of m nuspec nupkg) now ≡ Ok c
-        → IsAfterSome (commit_puts base cs c) area left → HoldsOneOf base cs c left }
-    ensures whole { (area left : Area) (base : List ℕ) (cs : Catalog) (m : Meta) (nuspec nupkg : List ℕ) (now : ℕ) (c : Stored)
-        → IsFound (Some area) base cs → IsWhole area base cs → verdict cs (changes_of m nuspec nupkg) now ≡ Ok c
-        → IsAfterSome (commit_puts base cs c) area left → IsWhole left base cs }
-    ensures more { (area left : Area) (base : List ℕ) (cs : Catalog) (body nuspec nupkg : List ℕ) (m : Meta) (now : ℕ) (c : Stored)
-        → now ≤ 3_155_378_975_999_999_999 → IsFound (Some area) base cs → IsPublishOf body m nuspec nupkg
-        → IsWhole area base cs → verdict cs (changes_of m nuspec nupkg) now ≡ Ok c → IsAfterSome (commit_puts base cs c) area left
-        → get left (page_name 0) ≡ doc_at base (cs ++ c ∷ []) (page_name 0) → IsWhole left base (cs ++ c ∷ []) }
+/// Whatever a publish answers, its area spells the catalog that was there, or that with one commit behind the others, which
+/// the verdict took; and so it is where a crash at any moment stops it.
+pub fn publishes_stop_between<B: Blobs, I: Source, O: Sink, C: Clock>()
+    ensures { let b = bounds B.Blobs I.Source O.Sink C.Clock in (words : List (List ℕ)) (before after : Outside B I O C) (status : ℕ) → Runs b words before status after
+        → command_of words ≡ Some Publish → ForSpelled (b.blobs.seen before.stores.catalog) (λ base cs. (changes : List Change) × (now : ℕ)
+        × WithOrWithout cs changes now (HasCatalog (b.blobs.seen after.stores.catalog) base)
+        × LeavesOnly (b.blobs.seen before.stores.catalog) (b.blobs.seen after.stores.catalog) (λ left. WithOrWithout cs changes now (SpellsCatalog left base))) }
 {}

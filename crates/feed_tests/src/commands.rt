@@ -325,7 +325,7 @@ const AGAIN: [&str; 6] = [
     DONE,
     DONE,
     DONE,
-    "refused unsupported\n",
+    "refused exists 0 1\n",
     "refused exists 0 1\n",
 ];
 
@@ -554,14 +554,20 @@ fn broken_catalogs_are_not_opened(rt: HostRuntime) -> Result<(), Fail> {
         let broken = text.replace(alloc, old, new)?;
         assert_eq!(rt; stores.catalog.put(alloc, name, broken.as_bytes()), Ok(()));
         let (_, output, _) = run(alloc, stores, &["publish"], with_body(BAR))?;
-        assert_eq!(rt; output.bytes(), REFUSED.as_bytes(), "{name}: {new}");
+        let line = format!(in alloc; "damaged catalog/{name}\n")?;
+        assert_eq!(rt; output.bytes(), line.as_bytes(), "{name}: {new}");
     }
     Ok(())
 }
 
 // A blob of the catalog's area that is lost, and what a command then answers.
 const LOST: [(&str, &[&str], u8, &str); 14] = [
-    ("page0.json", &["publish"], 3, REFUSED),
+    (
+        "page0.json",
+        &["publish"],
+        6,
+        "damaged catalog/page0.json\n",
+    ),
     ("index.json", &["publish"], 3, "refused uninitialised\n"),
     (
         "index.json",
@@ -576,12 +582,17 @@ const LOST: [(&str, &[&str], u8, &str); 14] = [
         "refused uninitialised\n",
     ),
     ("index.json", &["get", ""], 3, "refused uninitialised\n"),
-    ("page0.json", &["get", "/v3/catalog/page0.json"], 3, REFUSED),
+    (
+        "page0.json",
+        &["get", "/v3/catalog/page0.json"],
+        6,
+        "damaged catalog/page0.json\n",
+    ),
     (
         "page0.json",
         &["get", "/v3/flat/foo/index.json"],
-        3,
-        REFUSED,
+        6,
+        "damaged catalog/page0.json\n",
     ),
     (
         "data/1/0.json",
@@ -669,11 +680,11 @@ fn index_of(alloc: Global, count: u64) -> Result<String, NoMemory> {
 }
 
 #[test]
-fn a_catalog_has_room_for_512_items(rt: HostRuntime) -> Result<(), Fail> {
+fn the_next_page_takes_what_a_full_one_cannot(rt: HostRuntime) -> Result<(), Fail> {
     let alloc = rt.alloc();
-    for (count, line) in [
-        (511, "committed 512 2024-01-01T00:00:00.0000512Z\n"),
-        (512, REFUSED),
+    for (count, line, next) in [
+        (511, "committed 512 2024-01-01T00:00:00.0000512Z\n", false),
+        (512, "committed 513 2024-01-01T00:00:00.0000513Z\n", true),
     ] {
         let mut stores = empty(alloc, &[], &[])?;
         let page = page_of(alloc, count)?;
@@ -686,28 +697,30 @@ fn a_catalog_has_room_for_512_items(rt: HostRuntime) -> Result<(), Fail> {
             stores.catalog.put(alloc, "index.json", index.as_bytes()),
             Ok(())
         );
-        let (_, output, _) = run(alloc, stores, &["publish"], with_body(BAR))?;
+        let (_, output, mut stores) = run(alloc, stores, &["publish"], with_body(BAR))?;
         assert_eq!(rt; output.bytes(), line.as_bytes());
+        let there = matches!(stores.catalog.get(alloc, "page1.json"), Ok(Some(_)));
+        assert_eq!(rt; there, next, "{count}");
     }
     Ok(())
 }
 
 // The steps before a command, the command, and the calls of the catalog's store and of the content's that fail in it. Two
-// calls of the catalog's store make it, seven publish, two open it, one gets the leaf and two what the publish brought. The
+// calls of the catalog's store make it, seven publish, three open it, one gets the leaf and two what the publish brought. The
 // job gets the content's cursor, puts three documents and then the cursor.
 const CALLS: [(usize, &[&str], (u64, u64), (u64, u64), &str); 3] = [
     (
         2,
         &["get", "/v3/catalog/data/1/0.json"],
-        (10, 12),
+        (10, 13),
         (0, 0),
         LEAF,
     ),
-    (2, &["job", "content"], (10, 14), (1, 5), "done content 1\n"),
+    (2, &["job", "content"], (10, 15), (1, 5), "done content 1\n"),
     (
         3,
         &["get", "/v3/flat/foo/index.json"],
-        (15, 16),
+        (16, 18),
         (6, 6),
         VERSIONS,
     ),

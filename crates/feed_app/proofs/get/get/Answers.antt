@@ -1,27 +1,58 @@
-use Rattle.std.proofs.Common.{◌∙◌, ap, refl, arith}
-use Rattle.catalog_core.proofs.Grown.{simple_of_plain}
+use Rattle.std.proofs.Common.{◌≡◌, inl, inr, refl, sym, subst}
+use Rattle.feed_base.specs.Counts.{HasRisen}
+use Rattle.feed_paths.specs.Paths.{without_query}
 use Rattle.feed_paths.specs.declared.hives.ServedHive.TheVariants as the
 use Rattle.feed_app.specs.Hives.{hive_stores}
+use Rattle.feed_app.specs.Openings.{NotOpened}
 use Rattle.feed_app.specs.Outside.{over}
-use Rattle.feed_app.proofs.Gets.{explains, read_of}
+use Rattle.feed_app.specs.Spelled.{HasCatalog, IsOpenAs, StaysSpelled}
+use Rattle.feed_app.specs.declared.answer.Answer.{Answer}
+use Rattle.feed_app.proofs.Closed.{closed_by, closed_rose, not_of_hive}
+use Rattle.feed_app.proofs.Gets.{explains, reads_as}
+use Rattle.feed_app.proofs.Holding.{closed_spelled, fault_rose, open_over, opened_spelled, then_spelled}
+use Rattle.feed_app.proofs.Places.{kept}
 use Rattle.feed_app.proofs.get.get.Goals as goal
 
 pub returns-in-Ok : goal.returns-in-Ok
 returns-in-Ok g c = λ input clock.
-    let opened = c.in-Ok.ensures.ok in
+    let s = g.B.Blobs.seen c.args.stores.catalog in
+    let now = g.B.Blobs.seen c.in-Ok.catalog.area in
     let left = record c.args.stores { catalog = c.into_area.result; plain = c.document-answer.new.plain; semver2 = c.document-answer.new.semver2; content = c.document-answer.new.content } in
-    let is = read_of g.B.Blobs c.document-answer.result c.args.path.now c.in-Ok.catalog.base opened.0 (g.B.Blobs.seen c.in-Ok.catalog.area).held (g.B.Blobs.seen c.args.stores.catalog).held
-    (hive_stores c.args.stores) (hive_stores left) c.in-Ok.ensures.kept opened.1
-    (c.document-answer.ensures.is opened.0 (simple_of_plain opened.0 opened.1.1) opened.2) in
+    let opened = open_over s now c.in-Ok.catalog _ c.in-Ok.ensures.opened in
+    let spelled = opened_spelled s now c.in-Ok.catalog c.in-Ok.ensures.mends.area opened c.in-Ok.ensures.moments in
+    let is = inr (reads_as g.B.Blobs c.document-answer.result (without_query c.args.path.now) (IsOpenAs c.in-Ok.catalog now) (HasCatalog s)
+    (hive_stores c.args.stores) (hive_stores left) opened c.document-answer.ensures.is) in
     record {
       keeps = record {
-        catalog = ap (λ s. (g.B.Blobs.seen s).held) c.into_area.ensures ∙ (c.document-answer.ensures.same ∙ c.in-Ok.ensures.kept);
+        catalog = subst (λ x. StaysSpelled s (g.B.Blobs.seen x)) (sym c.into_area.ensures) (then_spelled s now _ c.in-Ok.catalog _ _ spelled opened c.document-answer.ensures.stays);
         plain = c.document-answer.ensures.keeps the.Plain;
         semver2 = c.document-answer.ensures.keeps the.SemVer2;
         content = c.document-answer.ensures.keeps the.Content;
         auto = refl;
       };
       explains = explains g.B.Blobs c.args.path.now (over c.args.stores input clock) (over left input clock) c.document-answer.result (hive_stores c.args.stores) (hive_stores left)
-          (λ e. omega (arith, c.in-Ok.ensures.later, c.document-answer.ensures.catalog_cause e, ap (λ s. (g.B.Blobs.seen s).faults) c.into_area.ensures)) c.document-answer.ensures.hive_cause is;
+          (λ e. subst (λ x. HasRisen s.faults (g.B.Blobs.seen x).faults) (sym c.into_area.ensures) (fault_rose s now _ _ c.in-Ok.ensures.mends c.document-answer.ensures.stays.mends e))
+          c.document-answer.ensures.hive_cause is;
+      acts = is;
+    }
+
+pub returns-in-Err : goal.returns-in-Err
+returns-in-Err g c = λ input clock.
+    let s = g.B.Blobs.seen c.args.stores.catalog in
+    let now = g.B.Blobs.seen c.in-Err.area in
+    let left = record c.args.stores { catalog = c.in-Err.area } in
+    let path = without_query c.args.path.now in
+    let closed = subst (λ (a : Answer). NotOpened a s) (sym c.of_opening.ensures) (closed_by c.in-Err.error s _ c.in-Err.ensures.missing c.in-Err.ensures.damaged c.in-Err.ensures.refused) in
+    let is = inl (closed, λ hive. refl) in
+    record {
+      keeps = record {
+        catalog = closed_spelled s now _ _ c.in-Err.ensures.mends_refused c.in-Err.ensures.refused c.in-Err.ensures.moments_refused;
+        plain = kept g.B.Blobs path the.Plain c.args.stores.plain;
+        semver2 = kept g.B.Blobs path the.SemVer2 c.args.stores.semver2;
+        content = kept g.B.Blobs path the.Content c.args.stores.content;
+        auto = refl;
+      };
+      explains = explains g.B.Blobs c.args.path.now (over c.args.stores input clock) (over left input clock) c.of_opening.result (hive_stores c.args.stores) (hive_stores left)
+          (closed_rose c.in-Err.error s now c.of_opening.result c.of_opening.ensures c.in-Err.ensures.mends_refused) (λ hive. not_of_hive c.of_opening.result s hive closed) is;
       acts = is;
     }

@@ -1,13 +1,22 @@
-use Rattle.std.proofs.Common.{Err, ap, refl}
-use Rattle.feed_app.proofs.Rounds.{idle, stopped}
+use Rattle.std.proofs.Common.{Err, List, ℕ, ap, refl, subst}
+use Rattle.feed_app.specs.Jobs.{IsBuilt, IsPartlyBuilt}
+use Rattle.feed_app.proofs.Jobs.{stopped}
 use Rattle.feed_app.proofs.job.job_in.Goals as goal
 
-pub returns-in-Ok-Idle-clause-is : goal.returns-in-Ok-Idle-clause-is
-returns-in-Ok-Idle-clause-is g c = λ cs plain are.
-    let told = rw c.in-Ok-Idle.field-0-is at c.in-Ok-Idle.ensures.idle in
-    (refl, c.in-Ok-Idle.ensures.fresh, told.0, idle (g.B.Blobs.seen c.args.catalog.now.area).held c.args.catalog.now.rows cs plain are told.1, told.2)
+pub returns-in-Ok-Done-clause-is : goal.returns-in-Ok-Done-clause-is
+returns-in-Ok-Done-clause-is g c =
+    let old = (g.B.Blobs.seen c.args.area.now).held in
+    let new = (g.B.Blobs.seen c.build_once.new.area).held in
+    let done = rw c.in-Ok-Done.field-0-is at c.in-Ok-Done.ensures.done in
+    let settled = rw c.in-Ok-Done.field-0-is at c.in-Ok-Done.ensures.settled in (
+      refl,
+      c.in-Ok-Done.ensures.fresh,
+      λ base cs are.
+          let told = done cs are.1 in
+          (told.0, told.1, subst (λ (b : List ℕ). IsBuilt g.H.Hive.keeps g.H.Hive.makes b cs old new) are.0 (told.2, settled cs are.1)),
+    )
 
 pub returns-in-Err-clause-is : goal.returns-in-Err-clause-is
-returns-in-Err-clause-is g c = λ cs plain are. rw (c.of_round.ensures, c.of_hive.ensures)
-    (stopped g.H.Hive.keeps g.H.Hive.makes c.args.hive c.args.catalog.now.base c.args.catalog.now.rows cs are (g.B.Blobs.seen c.args.catalog.now.area).held (g.B.Blobs.seen c.args.area.now).held (g.B.Blobs.seen c.build_once.new.area).held
-    c.in-Err.error (λ e. c.in-Err.ensures.unsupported (ap Err e)) c.in-Err.ensures.damaged (c.in-Err.ensures.whole cs plain are) (c.in-Err.ensures.some cs plain are))
+returns-in-Err-clause-is g c = rw (c.of_round.ensures, c.of_hive.ensures)
+    (stopped g.H.Hive.keeps g.H.Hive.makes c.args.hive c.in-Err.error _ _ _ _ (λ e. c.in-Err.ensures.unsupported (ap Err e)) c.in-Err.ensures.damaged (λ base cs are. c.in-Err.ensures.whole cs are.1)
+    (λ base cs are. subst (λ (b : List ℕ). IsPartlyBuilt g.H.Hive.keeps g.H.Hive.makes b cs (g.B.Blobs.seen c.args.area.now).held (g.B.Blobs.seen c.build_once.new.area).held) are.0 (c.in-Err.ensures.some cs are.1)))

@@ -1,42 +1,55 @@
-use Rattle.std.proofs.Common.{Err, ap, inr}
-use Rattle.std.proofs.lemmas.Result.{IfErr-weaker}
-use Rattle.catalog_core.proofs.Grown.{simple_of_plain}
-use Rattle.catalog_core.specs.Verdicts.{verdict}
-use Rattle.feed_app.proofs.Endings.{committed, ended}
+use Rattle.std.proofs.Common.{Ok, Err, List, inl, inr, refl, sym, subst}
+use Rattle.catalog_doc.specs.declared.change.Change.{Change}
+use Rattle.feed_app.specs.Openings.{NotOpened}
+use Rattle.feed_app.specs.Publishes.{CommitsAt}
+use Rattle.feed_app.specs.Spelled.{StaysSpelled}
+use Rattle.feed_app.specs.declared.answer.Answer.{Answer}
+use Rattle.feed_app.proofs.Closed.{closed_by}
+use Rattle.feed_app.proofs.Endings.{commits_behind}
+use Rattle.feed_app.proofs.Holding.{closed_spelled, open_over, opened_spelled}
 use Rattle.feed_app.proofs.publish.publish_into.Goals as goal
+
+pub returns-in-Err-clause-ends : goal.returns-in-Err-clause-ends
+returns-in-Err-clause-ends g c =
+    let s = g.B.Blobs.seen c.args.area in
+    let now = g.B.Blobs.seen c.in-Err.area in
+    let closed = subst (λ (a : Answer). NotOpened a s) (sym c.of_opening.ensures) (closed_by c.in-Err.error s _ c.in-Err.ensures.missing c.in-Err.ensures.damaged c.in-Err.ensures.refused) in
+    inl (inl closed, closed_spelled s now _ _ c.in-Err.ensures.mends_refused c.in-Err.ensures.refused c.in-Err.ensures.moments_refused, refl)
+
+pub returns-in_default-clause-ends : goal.returns-in_default-clause-ends
+returns-in_default-clause-ends g c =
+    let s = g.B.Blobs.seen c.args.area in
+    let now = g.B.Blobs.seen c.in-Ok.catalog.area in
+    let opened = open_over s now c.in-Ok.catalog _ c.in-Ok.ensures.opened in
+    let spelled = opened_spelled s now c.in-Ok.catalog c.in-Ok.ensures.mends.area opened c.in-Ok.ensures.moments in
+    inl (inr refl, subst (λ x. StaysSpelled s (g.B.Blobs.seen x)) (sym c.into_area.ensures) spelled, refl)
 
 pub returns-in-Ok-commit-clause-ends : goal.returns-in-Ok-commit-clause-ends
 returns-in-Ok-commit-clause-ends g c =
-    let opened = c.in-Ok.ensures.ok in
-    let simple = simple_of_plain opened.0 opened.1.1 in
-    let told = c.in-Ok-commit.ensures.ok opened.0 simple opened.2 in
+    let s = g.B.Blobs.seen c.args.area in
+    let now = g.B.Blobs.seen c.in-Ok.catalog.area in
+    let opened = open_over s now c.in-Ok.catalog _ c.in-Ok.ensures.opened in
+    let spelled = opened_spelled s now c.in-Ok.catalog c.in-Ok.ensures.mends.area opened c.in-Ok.ensures.moments in
     rw c.into_area-in-Ok-commit.ensures (inr (
       c.moment-now.result,
-      c.in-Ok.catalog.base,
-      opened.0,
+      Ok c.in-Ok-commit.done,
       c.moment-now.ensures,
-      opened.1,
-      committed c.args.publish.meta c.args.publish.nuspec c.args.publish.nupkg c.moment-now.result c.in-Ok.catalog.base opened.0 _ _ c.in-Ok-changes_of.changes
-          (g.B.Blobs.seen c.args.area).held (g.B.Blobs.seen c.in-Ok.catalog.area).held (g.B.Blobs.seen c.commit.new.self.area).held
-          c.in-Ok-changes_of.ensures c.in-Ok.ensures.kept (c.in-Ok-commit.ensures.taken opened.0 simple opened.2) told.0 told.1 told.3,
+      refl,
+      subst (λ (l : List Change). CommitsAt l c.moment-now.result s (g.B.Blobs.seen c.commit.new.self.area) (Ok c.in-Ok-commit.done)) c.in-Ok-changes_of.ensures
+          (commits_behind s now _ c.in-Ok.catalog c.commit.new.self c.in-Ok-changes_of.changes c.moment-now.result (Ok c.in-Ok-commit.done) spelled opened c.commit.ensures.base c.in-Ok-commit.ensures.commits c.commit.ensures.moments),
     ))
 
 pub returns-clause-ends : goal.returns-clause-ends
 returns-clause-ends g c =
-    let opened = c.in-Ok.ensures.ok in
-    let simple = simple_of_plain opened.0 opened.1.1 in
-    rw (c.into_area-in-Err-commit.ensures, c.of_commit.ensures) (inr (
+    let s = g.B.Blobs.seen c.args.area in
+    let now = g.B.Blobs.seen c.in-Ok.catalog.area in
+    let opened = open_over s now c.in-Ok.catalog _ c.in-Ok.ensures.opened in
+    let spelled = opened_spelled s now c.in-Ok.catalog c.in-Ok.ensures.mends.area opened c.in-Ok.ensures.moments in
+    rw c.into_area-in-Err-commit.ensures (inr (
       c.moment-now.result,
-      c.in-Ok.catalog.base,
-      opened.0,
+      Err c.in-Err-commit.error,
       c.moment-now.ensures,
-      opened.1,
-      ended c.args.publish.meta c.args.publish.nuspec c.args.publish.nupkg c.moment-now.result c.in-Ok.catalog.base opened.0 c.in-Err-commit.error c.in-Ok-changes_of.changes
-          (g.B.Blobs.seen c.args.area).held (g.B.Blobs.seen c.in-Ok.catalog.area).held (g.B.Blobs.seen c.commit.new.self.area).held
-          c.in-Ok-changes_of.ensures c.in-Ok.ensures.kept
-          (λ i. c.in-Err-commit.ensures.refused i opened.0 simple opened.2)
-          (λ i. ap (λ o. (g.B.Blobs.seen o.area).held) (c.in-Err-commit.ensures.untouched i))
-          (λ e. c.in-Err-commit.ensures.begun (λ i. Err (e i)) opened.0 simple opened.2)
-          (IfErr-weaker (verdict opened.0 c.in-Ok-changes_of.changes c.moment-now.result) _ _ (λ e h. ap (λ o. (g.B.Blobs.seen o.area).held) h.1) (c.in-Err-commit.ensures.exactly opened.0 simple opened.2))
-          (c.in-Err-commit.ensures.front opened.0 simple opened.2),
+      c.of_commit.ensures,
+      subst (λ (l : List Change). CommitsAt l c.moment-now.result s (g.B.Blobs.seen c.commit.new.self.area) (Err c.in-Err-commit.error)) c.in-Ok-changes_of.ensures
+          (commits_behind s now _ c.in-Ok.catalog c.commit.new.self c.in-Ok-changes_of.changes c.moment-now.result (Err c.in-Err-commit.error) spelled opened c.commit.ensures.base c.in-Err-commit.ensures.commits c.commit.ensures.moments),
     ))

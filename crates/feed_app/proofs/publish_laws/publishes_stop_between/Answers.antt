@@ -1,12 +1,10 @@
-use Rattle.feed_app.proofs.Stops.{stops_between}
-use Rattle.feed_app.proofs.Wholes.{whole_between, whole_with_page}
+use Rattle.feed_app.specs.Commands.{Publish}
+use Rattle.feed_app.specs.Outside.{bounds, sight}
+use Rattle.feed_app.proofs.Calls.{done}
+use Rattle.feed_app.proofs.Left.{left}
 use Rattle.feed_app.proofs.publish_laws.publishes_stop_between.Goals as goal
 
-pub returns-clause-held : goal.returns-clause-held
-returns-clause-held c = stops_between
-
-pub returns-clause-whole : goal.returns-clause-whole
-returns-clause-whole c = whole_between
-
-pub returns-clause-more : goal.returns-clause-more
-returns-clause-more c = whole_with_page
+pub returns : goal.returns
+returns g c = λ words before after status run asked.
+    let b = bounds g.B.Blobs g.I.Source g.O.Sink g.C.Clock in
+    left b.blobs (sight b before) (sight b after) run.answer (g.met.B.Blobs.now before.stores.catalog) (done b words before after status run Publish asked).acts

@@ -1,0 +1,73 @@
+-- What a publish leaves of a catalog that was spelled.
+use Rattle.std.proofs.Common.{◌≡◌, ℕ, List, [], Option, Result, inl, inr, sym, ◌∙◌, ap, subst, arith}
+use Rattle.blob_store.specs.Moments.{LeavesOnly}
+use Rattle.blob_store.specs.Seen.{IsSure, Seen}
+use Rattle.blob_store.proofs.Moments.{started, weaker}
+use Rattle.pkg_meta.specs.Catalog.{Catalog}
+use Rattle.catalog_doc.specs.Spelled.{SpellsCatalog}
+use Rattle.catalog_doc.specs.declared.change.Change.{Change}
+use Rattle.catalog_doc.specs.declared.change.Committed.{Committed}
+use Rattle.catalog_doc.specs.declared.error.CommitErr.{CommitErr}
+use Rattle.catalog_core.specs.Committing.{Commits, MayBeCommitted, with_made, WithOrWithout}
+use Rattle.feed_app.specs.Answers.{status_of}
+use Rattle.feed_app.specs.Openings.{IsOfStore}
+use Rattle.feed_app.specs.Outside.{Members, Sight}
+use Rattle.feed_app.specs.Publishes.{changes_of, NotTaken, Publishes}
+use Rattle.feed_app.specs.Spelled.{ForSpelled, HasCatalog}
+use Rattle.feed_app.specs.declared.answer.Answer.{Answer}
+use Rattle.feed_app.specs.declared.answer.Answer.TheVariants.{Done, Usage, Refused, Fault, FaultInput, Damaged, TooLong, Memory}
+use Rattle.feed_app.proofs.Endings.{reply_done, with_or_without}
+
+not_taken_zero : (answer : Answer) (rest : Option (List ℕ)) → NotTaken answer rest → status_of answer ≡ 0 → ⊥
+not_taken_zero (Done given) rest is zero = is
+not_taken_zero Usage rest is zero = is
+not_taken_zero (Refused why) rest is zero = omega (arith, zero)
+not_taken_zero (Fault name) rest is zero = is
+not_taken_zero FaultInput rest is zero = omega (arith, zero)
+not_taken_zero (Damaged name blob) rest is zero = is
+not_taken_zero TooLong rest is zero = omega (arith, zero)
+not_taken_zero Memory rest is zero = omega (arith, zero)
+
+of_store_zero : (answer : Answer) → IsOfStore answer → status_of answer ≡ 0 → ⊥
+of_store_zero (Done given) is zero = is
+of_store_zero Usage is zero = is
+of_store_zero (Refused why) is zero = is
+of_store_zero (Fault name) is zero = omega (arith, zero)
+of_store_zero FaultInput is zero = is
+of_store_zero (Damaged name blob) is zero = is
+of_store_zero TooLong is zero = is
+of_store_zero Memory is zero = omega (arith, zero)
+
+abbrev Found : Seen → List ℕ → Catalog → Type 0
+Found after base cs = (changes : List Change) × (now : ℕ) × MayBeCommitted cs changes now × HasCatalog after base (with_made cs changes now)
+
+abbrev Left : Seen → Seen → List ℕ → Catalog → Type 0
+Left before after base cs = (changes : List Change) × (now : ℕ) × WithOrWithout cs changes now (HasCatalog after base)
+    × LeavesOnly before after (λ left. WithOrWithout cs changes now (SpellsCatalog left base))
+
+module _ {B : Type 0} (m : Members B) (before after : Sight B) (answer : Answer) where
+  pub found : Publishes m before answer after → status_of answer ≡ 0 → ForSpelled (m.seen before.stores.catalog) (Found (m.seen after.stores.catalog))
+  found (inl (not_taken, same, unasked)) zero = λ base cs has. absurd (not_taken_zero answer before.input.told not_taken zero)
+  found (inr (meta, nuspec, nupkg, brings, inl (inl closed, spelled, unasked))) zero = λ base cs has. absurd (of_store_zero answer (closed.of_store base cs has) zero)
+  found (inr (meta, nuspec, nupkg, brings, inl (inr memory, spelled, unasked))) zero = λ base cs has. absurd (let no : 8 ≡ 0 = sym (ap status_of memory) ∙ zero in omega (arith, no))
+  found (inr (meta, nuspec, nupkg, brings, inr (now, r, tells, is, commits))) zero = λ base cs has.
+      let done = reply_done r (sym (ap status_of is) ∙ zero) in
+      let all = subst (λ (x : Result Committed CommitErr). Commits cs (changes_of meta nuspec nupkg) now x (HasCatalog (m.seen after.stores.catalog) base)) done.1 (commits.commits base cs has) in
+      (changes_of meta nuspec nupkg, now, all.0, all.2)
+
+  pub left : IsSure (m.seen before.stores.catalog) → Publishes m before answer after → ForSpelled (m.seen before.stores.catalog) (Left (m.seen before.stores.catalog) (m.seen after.stores.catalog))
+  left sure (inl (not_taken, same, unasked)) = unmoved_by same
+    where
+      unmoved_by : after.stores.catalog ≡ before.stores.catalog → ForSpelled (m.seen before.stores.catalog) (Left (m.seen before.stores.catalog) (m.seen after.stores.catalog))
+      unmoved_by is = λ base cs has. subst (λ (x : B). Left (m.seen before.stores.catalog) (m.seen x) base cs) (sym is)
+          ([], 0, inl has, started (m.seen before.stores.catalog) has.store.0 (λ area. WithOrWithout cs [] 0 (SpellsCatalog area base)) sure has.store.1 (inl has.store.2))
+  left sure (inr (meta, nuspec, nupkg, brings, inl (cause, spelled, unasked))) = λ base cs has.
+      let at = spelled.spelled base cs has in (
+        changes_of meta nuspec nupkg,
+        0,
+        inl at.0,
+        weaker (m.seen before.stores.catalog) (m.seen after.stores.catalog) (λ area. SpellsCatalog area base cs)
+            (λ area. WithOrWithout cs (changes_of meta nuspec nupkg) 0 (SpellsCatalog area base)) at.1 (λ area here. inl here),
+      )
+  left sure (inr (meta, nuspec, nupkg, brings, inr (now, r, tells, is, commits))) = λ base cs has.
+      (changes_of meta nuspec nupkg, now, with_or_without cs (changes_of meta nuspec nupkg) now r (HasCatalog (m.seen after.stores.catalog) base) (commits.commits base cs has), commits.moments base cs has)
