@@ -122,7 +122,8 @@ fn put_id<H: Hive, B: Blobs>(
     area: &mut B,
     state: &IdState,
 ) -> Result<(), RoundErr>
-    ensures { PutsInto (λ cs. state_puts H.makes catalog.old.base (bytes_of cs) state.now) (λ cs. HaveBytes (bytes_of cs) (docs_in H.makes catalog.old.base state.now))
+    ensures { PutsInto (λ cs. state_puts H.makes catalog.old.base (bytes_of cs) state.now)
+        (λ cs. HaveBytes (bytes_of cs) (docs_in H.makes catalog.old.base state.now))
         (scene catalog.old (B.seen catalog.old.area) (B.seen area.old)) (scene catalog.new (B.seen catalog.new.area) (B.seen area.new)) result }
 {
     let docs = docs_in::<H>(alloc, catalog.base(), state)?;
