@@ -1,5 +1,5 @@
 // The items of an open catalog.
-ghost use Rattle.std.specs.Prelude.{◌≡◌, ◌⊎◌, None, Some, IfOk, IfSome, IsErrOf, map, slice_get, List};
+ghost use Rattle.std.specs.Prelude.{◌≡◌, ◌⊎◌, None, Some, true, IfOk, IfSome, IsErrOf, OnOk, map, slice_get, List};
 ghost use Rattle.std.specs.List.{Contains};
 ghost use Rattle.blob_store.specs.Area.{Area};
 ghost use Rattle.pkg_meta.specs.declared.commit.Stored.{Stored};
@@ -49,6 +49,7 @@ impl<B: Blobs> Catalog<B> {
     pub fn commits(&mut self, alloc: Global) -> Result<Many<Commit>, ReadErr>
         ensures reads { (cs : List Stored) → IsOpenFor self.old (B.seen self.old.area) cs → IsRead (map (λ (c : Stored). c.commit) cs) result }
         ensures stays { StaysOpen self.old self.new (B.seen self.old.area) (B.seen self.new.area) (IsErrOf result ReadErr.Fault) }
+        ensures settled { OnOk result (self.new.settled ≡ true) }
         ensures held { (now : Area) → (B.seen self.new.area).held ≡ Some now → IfOk result (AreCommitsAt now self.new.base self.new.kept.rows) }
         ensures damaged { (m now : Area) → (B.seen self.old.area).held ≡ Some m → (B.seen self.new.area).held ≡ Some now
             → IfDamagedRead result (λ n. IsUnsettled m self.old n ⊎ ((row : Row) × Contains self.new.kept.rows row × IsNoLeafOf now self.new.base row n)) }

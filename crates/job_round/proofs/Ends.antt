@@ -103,11 +103,11 @@ module _ {B : Type 0} (keeps : Keeps) (makes : Makes)
   pub unsupported : (r : Result RoundOut RoundErr) → EndsIn r → IsErrOf r Unsupported → (new ≡ old) × IfSome old (λ m. IsSome (get m cursor_name))
   unsupported (Ok out) end is = ok_not out Unsupported ((new ≡ old) × IfSome old (λ m. IsSome (get m cursor_name))) is
   unsupported (Err e) end is = ⊎_elim (λ here. (here.1, here.2))
-      (λ stopped. not_unsupported ⊤ ⊤ ((new ≡ old) × IfSome old (λ m. IsSome (get m cursor_name))) (IsMissing a.store.held) e stopped.cause (err_is e Unsupported is)) end
+      (λ stopped. not_unsupported ⊤ ⊤ ((new ≡ old) × IfSome old (λ m. IsSome (get m cursor_name))) (IsMissing a.catalog b.catalog a.store b.store) e stopped.cause (err_is e Unsupported is)) end
 
-  pub damaged : (r : Result RoundOut RoundErr) → EndsIn r → IfErr r (λ e. IfDamaged e (IsMissing a.store.held))
+  pub damaged : (r : Result RoundOut RoundErr) → EndsIn r → IfErr r (λ e. IfDamaged e (IsMissing a.catalog b.catalog a.store b.store))
   damaged (Ok out) end = tt
-  damaged (Err e) end = ⊎_elim (λ here. not_damaged e (IsMissing a.store.held) here.0) (λ stopped. damage_of ⊤ ⊤ (IsMissing a.store.held) e stopped.cause) end
+  damaged (Err e) end = ⊎_elim (λ here. not_damaged e (IsMissing a.catalog b.catalog a.store b.store) here.0) (λ stopped. damage_of ⊤ ⊤ (IsMissing a.catalog b.catalog a.store b.store) e stopped.cause) end
 
   pub whole : (r : Result RoundOut RoundErr) → EndsIn r → ForOpen a (λ cs. IfErr r (λ e. IfDamaged e (λ n. ⊥)))
   whole (Ok out) end = λ cs is_open. tt
@@ -132,7 +132,7 @@ module _ {B : Type 0} (keeps : Keeps) (makes : Makes)
       → ForOpen a (λ cs. OnlyMemory r old)
   complete (Ok out) counts hive_counts end = λ cs is_open. ok_memory old out
   complete (Err e) counts hive_counts end = λ cs is_open. ⊎_elim (λ here. no_cursor old (Err e) here.2)
-      (λ stopped. on_memory old e (λ calm still. memory_only (IsMissing a.store.held) e stopped.cause (stopped.sound cs is_open)
+      (λ stopped. on_memory old e (λ calm still. memory_only (IsMissing a.catalog b.catalog a.store b.store) e stopped.cause (stopped.sound cs is_open)
       (calm_of e CatalogFault a.store.faults b.store.faults counts calm) (calm_of e HiveFault a.hive.faults b.hive.faults hive_counts still))) end
 
   pub some : (r : Result RoundOut RoundErr) → EndsIn r → ForOpen a (λ cs. HasRunSome (round_puts keeps makes a.catalog.base cs) old new)

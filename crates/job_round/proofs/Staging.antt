@@ -1,5 +1,5 @@
 -- The put of what a publish brought, and of bytes that a hive made.
-use Rattle.std.proofs.Common.{◌≡◌, ◌⊎◌, ◌∷◌, [], ℕ, List, Bool, Some, None, Result, Ok, Err, IfErr, IsSome, inr, refl, sym, ◌∙◌, ap, subst}
+use Rattle.std.proofs.Common.{◌≡◌, ◌⊎◌, ◌∷◌, [], ℕ, List, Bool, true, Some, Result, Ok, Err, IfErr, IsSome, ⊎_elim, refl, sym, ◌∙◌, ap, subst}
 use Rattle.std.specs.FinMap.{get}
 use Rattle.std.specs.List.{Contains, slice_get}
 use Rattle.std.specs.Prelude.{IsErrOf, ⊤}
@@ -25,13 +25,13 @@ use Rattle.fold_core.specs.declared.doc.Body.{Body}
 use Rattle.fold_core.specs.declared.doc.Body.TheVariants.{Made, Staged as FromPublish}
 use Rattle.fold_core.specs.declared.doc.Doc.{Doc}
 use Rattle.job_round.specs.Errors.{IsCause, catalog_err_of}
-use Rattle.job_round.specs.Puts.{doc_put, HasPut, IsLeafName, IsMissing, IsStagedName, put_of, PutsInto, Scene, scene}
+use Rattle.job_round.specs.Puts.{doc_put, HasPut, IsStagedAbsent, put_of, PutsInto, Scene, scene}
 use Rattle.job_round.specs.declared.error.RoundErr.{RoundErr}
 use Rattle.job_round.specs.declared.error.RoundErr.TheVariants.{CatalogFault, HiveFault}
 use Rattle.job_round.proofs.Bodies.{brought_of}
 use Rattle.job_round.proofs.Runs.{kept_some}
 use Rattle.job_round.proofs.Steps.{cause_as, named, stopped}
-use Rattle.job_round.proofs.Tops.{fault_of, missing_or, not_damaged, not_hive}
+use Rattle.job_round.proofs.Tops.{fault_of, not_damaged, not_hive}
 
 no_catalog_fault : {A : Type 0} (r : Result A RoundErr) → IfErr r (IsCause ⊥ ⊤ (λ name. ⊥)) → IsErrOf r CatalogFault → ⊥
 no_catalog_fault r cause is = subst (λ (x : Result _ RoundErr). IfErr x (IsCause ⊥ ⊤ (λ name. ⊥))) is cause
@@ -59,20 +59,25 @@ module _ {B : Type 0} (o n : Opened B) (s t h : Seen) (name : List ℕ) where
     abbrev ready : Catalog → Type 0
     ready cs = IsSome (bytes_of cs (FromPublish number place nuspec))
 
-    absent : (now : Area) (damaged : List ℕ) → IsAbsent (staged_name number place nuspec) now damaged → IsLeafName damaged ⊎ (IsStagedName damaged × (get now damaged ≡ None))
-    absent now damaged (is, none) = inr ((number, place, nuspec, is), ap (get now) is ∙ none)
+    abbrev Told : ReadErr → Type 0
+    Told error = (m now : Area) → s.held ≡ Some m → t.held ≡ Some now → IfDamagedBy error (λ damaged. IsUnsettled m o damaged ⊎ IsAbsent (staged_name number place nuspec) now damaged)
+
+    absent : (error : ReadErr) → Told error → o.settled ≡ true → t.held ≡ s.held → IsCause ⊤ ⊤ (IsStagedAbsent s.held) (catalog_err_of error)
+    absent (reading.Damaged damaged) told settled same = λ m is.
+        ⊎_elim (λ here. let no : ⊥ = cc in absurd no) (λ there. ((number, place, nuspec, there.0), ap (get m) there.0 ∙ there.1)) (told m m is (same ∙ is))
+    absent reading.Fault told settled same = tt
+    absent reading.Memory told settled same = tt
 
     -- it wasn't read
     pub staged_lost : (error : ReadErr) (answer : RoundErr) → answer ≡ catalog_err_of error → Reads o s number place nuspec (Err error)
         → StaysOpen o n s t (unread error ≡ unread reading.Fault)
-        → ((m now : Area) → s.held ≡ Some m → t.held ≡ Some now → IfDamagedBy error (λ damaged. IsUnsettled m o damaged ⊎ IsAbsent (staged_name number place nuspec) now damaged))
-        → PutsInto calls ready (scene o s h) (scene n t h) (stopped (Unit {0}) answer)
+        → Told error → PutsInto calls ready (scene o s h) (scene n t h) (stopped (Unit {0}) answer)
     staged_lost error answer is reads stays damaged = subst (λ (e : RoundErr). PutsInto calls ready (scene o s h) (scene n t h) (stopped (Unit {0}) e)) (sym is) (record {
       stays = stays_iff o n s t _ _ stays
           (λ failed. let same : error ≡ reading.Fault = cc in ap Err (ap catalog_err_of same))
           (λ failed. let same : catalog_err_of error ≡ CatalogFault = cc in ap Err (fault_of error same));
       counts = counts_none h.faults _ (λ failed. not_hive error (let same : catalog_err_of error ≡ HiveFault = cc in same));
-      cause = missing_or s.held t.held stays.mends.area o (λ now damaged. IsAbsent (staged_name number place nuspec) now damaged) error absent damaged;
+      cause = λ settled. absent error damaged settled (stays.settled settled).1;
       puts = λ cs is_open has.
           let at = brought_of cs number place nuspec is_open.lawful.lawful.commits has in
           (kept_some (calls cs) h.held h.held refl, not_damaged (staged_bytes nuspec at.brought) error (reads cs at.commit at.brought is_open at.within at.number_is at.stands));
@@ -85,7 +90,7 @@ module _ {B : Type 0} (o n : Opened B) (s t h : Seen) (name : List ℕ) where
     staged_put k bytes reads stays r cause counts slice same put = record {
       stays = stays_iff o n s t _ _ stays (λ failed. let no : ⊥ = cc in absurd no) (λ failed. absurd (no_catalog_fault r cause failed));
       counts = counts;
-      cause = hive_cause (IsMissing s.held) r cause;
+      cause = λ settled. hive_cause (IsStagedAbsent s.held) r cause;
       puts = λ cs is_open has.
           let at = brought_of cs number place nuspec is_open.lawful.lawful.commits has in
           let read : bytes ≡ staged_bytes nuspec at.brought = reads cs at.commit at.brought is_open at.within at.number_is at.stands in
@@ -98,7 +103,7 @@ pub put_alone : {B : Type 0} (a : Scene B) (k : Seen) (call : Call) → IsSure a
 put_alone a k call sure r cause counts put = record {
   stays = stays_as a.catalog a.store _ sure (no_catalog_fault r cause);
   counts = counts;
-  cause = hive_cause (IsMissing a.store.held) r cause;
+  cause = λ settled. hive_cause (IsStagedAbsent a.store.held) r cause;
   puts = λ cs is_open has. put;
 }
 

@@ -1,14 +1,13 @@
 -- Calls that change no catalog, one behind the other.
-use Rattle.std.proofs.Common.{◌≡◌, ◌≢◌, ℕ, List, Bool, true, false, cond, Option, None, Some, inl, inr, refl, sym, ◌∙◌, ap, subst, option_map, get_or, arith}
+use Rattle.std.proofs.Common.{◌≡◌, ℕ, List, Bool, true, false, cond, Option, None, Some, inl, inr, refl, sym, ◌∙◌, ap, subst, option_map}
 use Rattle.std.specs.FinMap.{get}
 use Rattle.std.specs.Str.{bytes_eq}
 use Rattle.blob_store.specs.Area.{Area, with_blob}
 use Rattle.blob_store.specs.Seen.{Seen}
-use Rattle.blob_store.proofs.Areas.{get-changed, get_put_other, same_area}
+use Rattle.blob_store.proofs.Areas.{get-changed, same_area}
 use Rattle.catalog_doc.specs.Documents.{index_text}
-use Rattle.catalog_doc.specs.Names.{index_name, staged_name}
+use Rattle.catalog_doc.specs.Names.{index_name}
 use Rattle.catalog_doc.specs.Spelled.{SpellsCatalog}
-use Rattle.catalog_doc.specs.declared.head.PageHead.{PageHead}
 use Rattle.catalog_opening.specs.Openings.{IsMended, KeepsSpelling, Mends}
 use Rattle.catalog_core.specs.Framing.{StaysOpen}
 use Rattle.catalog_core.specs.Opened.{Opened}
@@ -53,15 +52,3 @@ stays_then o mid n a b c P Q first quiet second = record {
         moments = leaves_then a b c (λ left. SpellsCatalog left o.base cs) at.moments (subst (λ (x : List ℕ). KeepsSpelling b c x cs) first.base next.moments);
       };
 }
-
-apart_first : (xs ys : List ℕ) → get_or xs 0 0 ≢ get_or ys 0 0 → xs ≢ ys
-apart_first xs ys other e = other (ap (λ (l : List ℕ). get_or l 0 0) e)
-
-staged_name-not_index : (number place : ℕ) (nuspec : Bool) → staged_name number place nuspec ≢ index_name
-staged_name-not_index number place true is = apart_first (staged_name number place true) index_name (omega arith) is
-staged_name-not_index number place false is = apart_first (staged_name number place false) index_name (omega arith) is
-
--- what a publish brought is held as it was
-pub staged_kept : (m : Area) (base : List ℕ) (heads : List PageHead) (number place : ℕ) (nuspec : Bool)
-    → get (with_blob index_name (index_text base heads) m) (staged_name number place nuspec) ≡ get m (staged_name number place nuspec)
-staged_kept m base heads number place nuspec = get_put_other m index_name (index_text base heads) (staged_name number place nuspec) (staged_name-not_index number place nuspec)

@@ -1,29 +1,24 @@
 -- The steps of a job: puts into the hive's area, one behind the other, and why a job stops.
-use Rattle.std.proofs.Common.{◌≡◌, ◌⊎◌, ◌<◌, ◌≤◌, ◌+◌, ◌-◌, ◌++◌, ◌∷◌, [], ℕ, List, length, take, drop, get_or, Option, None, Result, Ok, Err, IfErr, IsSome, inl, inr, suc, refl, sym, ◌∙◌, ap, subst, append-nil, option_map, arith}
+use Rattle.std.proofs.Common.{◌≡◌, ◌<◌, ◌≤◌, ◌+◌, ◌-◌, ◌++◌, ◌∷◌, [], ℕ, List, length, take, drop, get_or, Option, Result, Ok, Err, IfErr, IsSome, suc, refl, sym, ◌∙◌, ap, subst, append-nil, arith}
 use Rattle.std.proofs.lemmas.Grind.{flat_map-append}
 use Rattle.std.proofs.lemmas.List.{take_all, take_more, take-append-drop}
 use Rattle.std.proofs.lemmas.List.Elements.{Contains-get_or}
-use Rattle.std.specs.FinMap.{get}
 use Rattle.std.specs.List.{Contains}
 use Rattle.std.specs.Prelude.{flat_map, IsErrOf, ⊤}
-use Rattle.blob_store.specs.Area.{Area, with_blob}
+use Rattle.blob_store.specs.Area.{Area}
 use Rattle.blob_store.specs.Seen.{IsSure}
 use Rattle.blob_store.specs.declared.call.Call.{Call}
 use Rattle.pkg_meta.specs.Catalog.{Catalog}
-use Rattle.catalog_doc.specs.Documents.{index_text}
-use Rattle.catalog_doc.specs.Names.{index_name}
-use Rattle.catalog_doc.specs.declared.head.PageHead.{PageHead}
-use Rattle.catalog_opening.specs.Openings.{IsMended}
 use Rattle.catalog_items.proofs.Getting.{counts_as, counts_none, counts_then}
 use Rattle.catalog_core.proofs.Frames.{stays_as, stays_iff}
 use Rattle.fold_core.specs.Docs.{bytes_of}
 use Rattle.fold_core.specs.declared.doc.Doc.{Doc}
 use Rattle.job_round.specs.Errors.{IsCause}
-use Rattle.job_round.specs.Puts.{Bodies, doc_put, doc_puts, HasPut, HasRun, HaveBytes, index_last, IsLeafName, IsMissing, IsPageName, IsStagedName, PutsInto, Scene}
+use Rattle.job_round.specs.Puts.{Bodies, doc_put, doc_puts, HasPut, HasRun, HaveBytes, index_last, IsStagedAbsent, PutsInto, Scene}
 use Rattle.job_round.specs.declared.error.RoundErr.{RoundErr}
 use Rattle.job_round.specs.declared.error.RoundErr.TheVariants.{CatalogFault, HiveFault, Damaged, Unsupported, Memory}
 use Rattle.job_round.proofs.Runs.{kept_some, run_none, run_then, some_first, some_then}
-use Rattle.job_round.proofs.Stays.{staged_kept, stays_then}
+use Rattle.job_round.proofs.Stays.{stays_then}
 
 -- it went well
 abbrev pub well : Result Unit RoundErr
@@ -44,32 +39,13 @@ cause_as A B C D P Q (Damaged name) first second third cause = third name cause
 cause_as A B C D P Q Unsupported first second third cause = cause
 cause_as A B C D P Q Memory first second third cause = tt
 
--- the same of a result
-pub causes_as : {A : Type 0} (P Q : List ℕ → Type 0) (r : Result A RoundErr) → ((name : List ℕ) → P name → Q name) → IfErr r (IsCause ⊤ ⊤ P) → IfErr r (IsCause ⊤ ⊤ Q)
-causes_as P Q (Ok x) to cause = tt
-causes_as P Q (Err e) to cause = cause_as ⊤ ⊤ ⊤ ⊤ P Q e (λ h. h) (λ h. h) to cause
-
-pub before_index : (m : Area) (base : List ℕ) (heads : List PageHead) (name : List ℕ)
-    → IsPageName name ⊎ (IsLeafName name ⊎ (IsStagedName name × (get (with_blob index_name (index_text base heads) m) name ≡ None)))
-    → IsPageName name ⊎ (IsLeafName name ⊎ (IsStagedName name × (get m name ≡ None)))
-before_index m base heads name (inl page) = inl page
-before_index m base heads name (inr (inl leaf)) = inr (inl leaf)
-before_index m base heads name (inr (inr ((number, place, nuspec, is), none))) =
-    inr (inr ((number, place, nuspec, is), ap (get m) is ∙ sym (staged_kept m base heads number place nuspec) ∙ ap (get (with_blob index_name (index_text base heads) m)) (sym is) ∙ none))
-
--- what is missing where an index was put was missing before
-pub missing_back : (old new : Option Area) → IsMended old new → (name : List ℕ) → IsMissing new name → IsMissing old name
-missing_back old new (inl same) name missing = λ m is. missing m (same ∙ is)
-missing_back old new (inr (base, heads, put)) name missing = λ m is.
-    before_index m base heads name (missing (with_blob index_name (index_text base heads) m) (put ∙ ap (option_map (with_blob index_name (index_text base heads))) is))
-
 -- a call that stopped, told as the result of another
 pub told : {A X B : Type 0} (e : RoundErr) (r : Result A RoundErr) → r ≡ Err e → (f : Catalog → List Call) (P : Catalog → Type 0) (a b : Scene B)
     → PutsInto f P a b (stopped X e) → PutsInto f P a b r
 told {A} e r is f P a b put = record {
   stays = stays_iff a.catalog b.catalog a.store b.store _ _ put.stays (λ failed. let same : e ≡ CatalogFault = cc in is ∙ ap Err same) (λ failed. let same : e ≡ CatalogFault = cc in ap Err same);
   counts = counts_as a.hive.faults b.hive.faults _ _ put.counts (λ failed. let same : e ≡ HiveFault = cc in is ∙ ap Err same) (λ failed. let same : e ≡ HiveFault = cc in ap Err same);
-  cause = subst (λ (x : Result A RoundErr). IfErr x (IsCause ⊤ ⊤ (IsMissing a.store.held))) (sym is) put.cause;
+  cause = λ settled. subst (λ (x : Result A RoundErr). IfErr x (IsCause ⊤ ⊤ (IsStagedAbsent a.store.held))) (sym is) (put.cause settled);
   puts = λ cs is_open ready. subst (λ (x : Result A RoundErr). HasPut (f cs) a.hive.held b.hive.held x) (sym is) (put.puts cs is_open ready);
 }
 
@@ -94,7 +70,7 @@ module _ {A X B : Type 0} (f g : Catalog → List Call) (P R : Catalog → Type 
   puts_then x r Q c next first second = record {
     stays = stays_then a.catalog b.catalog c.catalog a.store b.store c.store _ _ first.stays (never x CatalogFault) second.stays;
     counts = counts_then a.hive.faults b.hive.faults c.hive.faults _ _ first.counts (never x HiveFault) second.counts;
-    cause = causes_as (IsMissing b.store.held) (IsMissing a.store.held) r (missing_back a.store.held b.store.held first.stays.mends.area) second.cause;
+    cause = λ settled. let at = first.stays.settled settled in subst (λ (held : Option Area). IfErr r (IsCause ⊤ ⊤ (IsStagedAbsent held))) at.1 (second.cause at.0);
     puts = λ cs is_open ready. put_then (f cs) (g cs) a.hive.held b.hive.held c.hive.held r (first.puts cs is_open (own cs ready)) (second.puts cs (first.stays.open_for cs is_open).open_for (next cs ready));
   }
 
@@ -118,7 +94,7 @@ not_begun r Unsupported is cause f P a sure = absurd cause
 not_begun r Memory is cause f P a sure = told {X = Unit {0}} Memory r is f P a a (record {
   stays = stays_as a.catalog a.store _ sure (λ failed. let no : ⊥ = cc in no);
   counts = counts_none a.hive.faults _ (λ failed. let no : ⊥ = cc in no);
-  cause = tt;
+  cause = λ settled. tt;
   puts = λ cs is_open ready. (kept_some (f cs) a.hive.held a.hive.held refl, tt);
 })
 
@@ -127,7 +103,7 @@ pub no_puts : {B : Type 0} (P : Catalog → Type 0) (a : Scene B) → IsSure a.s
 no_puts P a sure = record {
   stays = stays_as a.catalog a.store _ sure (never tt CatalogFault);
   counts = counts_none a.hive.faults _ (never tt HiveFault);
-  cause = tt;
+  cause = λ settled. tt;
   puts = λ cs is_open ready. run_none a.hive.held a.hive.held refl;
 }
 

@@ -1,7 +1,7 @@
 -- How a job ends.
 use Rattle.std.proofs.Common.{◌≡◌, ◌-◌, ℕ, List, length, Bool, true, false, Option, Some, None, Result, Ok, Err, IfSome, IsSome, ◌⊎◌, inl, inr, refl, sym, ◌∙◌, ap, subst, arith}
 use Rattle.std.specs.FinMap.{get}
-use Rattle.std.specs.List.{Contains, slice_get}
+use Rattle.std.specs.List.{slice_get}
 use Rattle.std.specs.Option.{is_some}
 use Rattle.std.specs.Prelude.{IsErrOf, ⊤}
 use Rattle.blob_store.specs.Area.{Area}
@@ -9,8 +9,6 @@ use Rattle.blob_store.specs.Seen.{IsSure, Seen}
 use Rattle.blob_store.specs.declared.call.Call.{Call}
 use Rattle.pkg_meta.specs.Catalog.{Catalog}
 use Rattle.pkg_meta.specs.declared.commit.Commit.{Commit}
-use Rattle.catalog_doc.specs.declared.row.Row.{Row}
-use Rattle.catalog_items.specs.Leaves.{IsNoLeafOf}
 use Rattle.catalog_opening.specs.Errors.{IfDamagedBy}
 use Rattle.catalog_core.specs.Framing.{StaysOpen}
 use Rattle.catalog_core.specs.Opened.{IsUnsettled, Opened}
@@ -24,7 +22,7 @@ use Rattle.fold_core.specs.Laws.{AreOfEntries}
 use Rattle.pkg_meta.specs.declared.entry.Entry.{Entry}
 use Rattle.job_round.specs.Errors.{IfDamaged, IsCause, catalog_err_of}
 use Rattle.job_round.specs.Keys.{keys_of}
-use Rattle.job_round.specs.Puts.{all_puts, HasPut, HaveAllBytes, IsMissing, PutsInto, Scene}
+use Rattle.job_round.specs.Puts.{all_puts, HasPut, HaveAllBytes, IsMissing, IsNoLeafAmong, IsStagedAbsent, PutsInto, Scene}
 use Rattle.job_round.specs.Round.{Ended, ForOpen, round_puts}
 use Rattle.job_round.specs.declared.error.RoundErr.{RoundErr}
 use Rattle.job_round.specs.declared.error.RoundErr.TheVariants.{CatalogFault, HiveFault, Damaged, Unsupported, Memory}
@@ -33,8 +31,8 @@ use Rattle.job_round.proofs.Bodies.{all_there}
 use Rattle.catalog_core.proofs.Frames.{stays_as, stays_iff}
 use Rattle.job_round.proofs.Runs.{kept_some}
 use Rattle.job_round.proofs.Stays.{stays_then}
-use Rattle.job_round.proofs.Steps.{cause_as, missing_back, never, stopped, well}
-use Rattle.job_round.proofs.Tops.{last_is, missing_or, no_last, not_damaged, puts_are}
+use Rattle.job_round.proofs.Steps.{cause_as, never, stopped, well}
+use Rattle.job_round.proofs.Tops.{last_is, missing_read, no_last, not_damaged, puts_are}
 
 pub cursor_there : (o : Option Area) (there : Bool) → there ≡ true → IfSome o (λ a. there ≡ is_some (get a cursor_name)) → IfSome o (λ a. IsSome (get a cursor_name))
 cursor_there None there yes_there found = tt
@@ -72,7 +70,7 @@ sound_early Memory cause = tt
 
 module _ {B : Type 0} (keeps : Keeps) (makes : Makes) (a b : Scene B) where
   -- it stopped before any put
-  pub stopped_early : (e : RoundErr) → IsCause ⊤ ⊤ (IsMissing a.store.held) e → ForOpen a (λ cs. IfDamaged e (λ name. ⊥)) → b.hive.held ≡ a.hive.held → Ended keeps makes a b (Err e)
+  pub stopped_early : (e : RoundErr) → IsCause ⊤ ⊤ (IsMissing a.catalog b.catalog a.store b.store) e → ForOpen a (λ cs. IfDamaged e (λ name. ⊥)) → b.hive.held ≡ a.hive.held → Ended keeps makes a b (Err e)
   stopped_early e cause sound same = inr (record {
     cause = cause;
     sound = sound;
@@ -81,17 +79,15 @@ module _ {B : Type 0} (keeps : Keeps) (makes : Makes) (a b : Scene B) where
   })
 
   pub not_looked : (e : RoundErr) → IsCause ⊥ ⊤ (λ name. ⊥) e → b.hive.held ≡ a.hive.held → Ended keeps makes a b (Err e)
-  not_looked e cause same = stopped_early e (cause_as ⊥ ⊤ ⊤ ⊤ (λ name. ⊥) (IsMissing a.store.held) e (λ no. absurd no) (λ h. h) (λ name no. absurd no) cause) (λ cs is_open. sound_early e cause) same
+  not_looked e cause same = stopped_early e (cause_as ⊥ ⊤ ⊤ ⊤ (λ name. ⊥) (IsMissing a.catalog b.catalog a.store b.store) e (λ no. absurd no) (λ h. h) (λ name no. absurd no) cause) (λ cs is_open. sound_early e cause) same
 
   -- the commits weren't read
-  pub not_read : (error : ReadErr) (answer : RoundErr) → answer ≡ catalog_err_of error → (F : Type 0) → StaysOpen a.catalog b.catalog a.store b.store F
+  pub not_read : (error : ReadErr) (answer : RoundErr) → answer ≡ catalog_err_of error
       → ((m now : Area) → a.store.held ≡ Some m → b.store.held ≡ Some now
-      → IfDamagedBy error (λ name. IsUnsettled m a.catalog name ⊎ ((row : Row) × Contains b.catalog.kept.rows row × IsNoLeafOf now b.catalog.base row name)))
+      → IfDamagedBy error (λ name. IsUnsettled m a.catalog name ⊎ IsNoLeafAmong now b.catalog.base b.catalog.kept.rows name))
       → ForOpen a (λ cs. IsRead (commits_of cs) (Err error)) → b.hive.held ≡ a.hive.held → Ended keeps makes a b (Err answer)
-  not_read error answer is F stays damaged reads same = subst (λ (e : RoundErr). Ended keeps makes a b (Err e)) (sym is)
-      (stopped_early (catalog_err_of error)
-      (missing_or a.store.held b.store.held stays.mends.area a.catalog (λ now name. (row : Row) × Contains b.catalog.kept.rows row × IsNoLeafOf now b.catalog.base row name) error
-      (λ now name there. inl (there.0.number, there.0.place, there.2.0)) damaged)
+  not_read error answer is damaged reads same = subst (λ (e : RoundErr). Ended keeps makes a b (Err e)) (sym is)
+      (stopped_early (catalog_err_of error) (missing_read a b error damaged)
       (λ cs is_open. not_damaged (commits_of cs) error (reads cs is_open)) same)
 
   pub built_already : (there : Bool) → there ≡ true → IfSome a.hive.held (λ m. there ≡ is_some (get m cursor_name)) → b.hive.held ≡ a.hive.held → Ended keeps makes a b (Err Unsupported)
@@ -105,7 +101,7 @@ module _ {B : Type 0} (keeps : Keeps) (makes : Makes) (a b : Scene B) where
 -- the commits were read, between a and mid
 module _ {B F : Type 0} (keeps : Keeps) (makes : Makes) (a mid b : Scene B) (staged : (base key : List ℕ) (number stamp : ℕ) (es : List Entry) → AreOfEntries es (makes base key number stamp es))
     (there : Bool) (absent : there ≡ false) (found : IfSome a.hive.held (λ m. there ≡ is_some (get m cursor_name))) (same : mid.hive.held ≡ a.hive.held)
-    (stays : StaysOpen a.catalog mid.catalog a.store mid.store F)
+    (stays : StaysOpen a.catalog mid.catalog a.store mid.store F) (settled : mid.catalog.settled ≡ true)
     (commits : List Commit) (last : Commit) (read : ForOpen a (λ cs. commits ≡ commits_of cs)) (is : Some last ≡ slice_get commits (length commits - 1)) where
   abbrev calls : Catalog → List Call
   calls cs = all_puts keeps makes mid.catalog.base commits (bytes_of cs) last.number last.stamp
@@ -137,7 +133,8 @@ module _ {B F : Type 0} (keeps : Keeps) (makes : Makes) (a mid b : Scene B) (sta
   -- it stopped in the puts
   pub stopped_putting : {X : Type 0} (e : RoundErr) → PutsInto calls ready mid b (stopped X e) → Ended keeps makes a b (Err e)
   stopped_putting {X} e put = inr (record {
-    cause = cause_as ⊤ ⊤ ⊤ ⊤ (IsMissing mid.store.held) (IsMissing a.store.held) e (λ h. h) (λ h. h) (missing_back a.store.held mid.store.held stays.mends.area) put.cause;
+    cause = cause_as ⊤ ⊤ ⊤ ⊤ (IsStagedAbsent mid.store.held) (IsMissing a.catalog b.catalog a.store b.store) e (λ h. h) (λ h. h)
+        (λ name lost. λ m now is at. inr (inr (subst (λ (held : Option Area). IsStagedAbsent held name) (sym (put.stays.settled settled).1) lost))) (put.cause settled);
     sound = λ cs is_open. (put_of (stopped X e) put cs is_open).1;
     some = λ cs is_open. (put_of (stopped X e) put cs is_open).0;
     fresh = inr (cursor_absent a.hive.held there absent found);

@@ -1,8 +1,7 @@
 -- What a job did, said of a catalog that was open, and what follows from a cause.
-use Rattle.std.proofs.Common.{◌≡◌, ◌<◌, ◌+◌, ◌-◌, ℕ, suc, List, [], ◌∷◌, ◌++◌, length, Option, Some, None, Err, inl, inr, ⊎_elim, ◌⊎◌, refl, sym, ◌∙◌, ap, subst, option_map, length-append, arith}
+use Rattle.std.proofs.Common.{◌≡◌, ◌<◌, ◌+◌, ◌-◌, ℕ, suc, List, [], ◌∷◌, ◌++◌, length, Some, None, Err, inl, inr, ⊎_elim, ◌⊎◌, refl, sym, ◌∙◌, ap, subst, length-append, arith}
 use Rattle.std.proofs.lemmas.List.{length-map}
 use Rattle.std.specs.Prelude.{⊤}
-use Rattle.std.specs.FinMap.{get}
 use Rattle.std.specs.List.{slice_get}
 use Rattle.pkg_meta.specs.Catalog.{Catalog}
 use Rattle.pkg_meta.specs.declared.commit.Commit.{Commit}
@@ -11,18 +10,14 @@ use Rattle.pkg_meta.specs.Lawful.{MayFollow, newest}
 use Rattle.catalog_opening.specs.Errors.{IfDamagedBy}
 use Rattle.catalog_opening.specs.declared.error.ReadErr.{ReadErr}
 use Rattle.catalog_opening.specs.declared.error.ReadErr.TheVariants as reading
-use Rattle.catalog_core.specs.Opened.{IsUnsettled, Opened}
+use Rattle.catalog_core.specs.Opened.{IsUnsettled}
 use Rattle.catalog_items.specs.Reads.{IsRead}
-use Rattle.blob_store.specs.Area.{Area, with_blob}
-use Rattle.catalog_doc.specs.Documents.{index_text}
-use Rattle.catalog_doc.specs.Names.{index_name}
-use Rattle.catalog_opening.specs.Openings.{IsMended}
-use Rattle.job_round.proofs.Steps.{before_index}
+use Rattle.blob_store.specs.Area.{Area}
 use Rattle.fold_core.specs.Docs.{Makes, bytes_of}
 use Rattle.fold_core.specs.Entries.{Keeps}
 use Rattle.fold_core.specs.Items.{commits_of}
 use Rattle.job_round.specs.Errors.{IfDamaged, IsCause, catalog_err_of}
-use Rattle.job_round.specs.Puts.{all_puts, IsLeafName, IsMissing, IsPageName, IsStagedName}
+use Rattle.job_round.specs.Puts.{all_puts, IsNoLeafAmong, IsMissing, Scene}
 use Rattle.job_round.specs.Round.{round_puts}
 use Rattle.job_round.specs.declared.error.RoundErr.{RoundErr}
 use Rattle.job_round.specs.declared.error.RoundErr.TheVariants.{CatalogFault, HiveFault, Damaged, Unsupported, Memory}
@@ -70,23 +65,14 @@ puts_are keeps makes base cs commits last follows same is =
     ∙ ap (λ (n : ℕ). all_puts keeps makes base (commits_of cs) (bytes_of cs) n last.stamp) ends.0
     ∙ ap (λ (n : ℕ). all_puts keeps makes base (commits_of cs) (bytes_of cs) (length cs) n) ends.1
 
-page_of : {B : Type 0} (m : Area) (o : Opened B) (name : List ℕ) → IsUnsettled m o name → IsPageName name
-page_of m o name (unsettled, inl (inl (k, is, damaged))) = inr (k, is)
-page_of m o name (unsettled, inl (inr (is, damaged))) = inr (_, is)
-page_of m o name (unsettled, inr (is, many)) = inl is
-
--- what is told as damaged of the catalog's area before an index may have been put, or of the one after that
-pub missing_or : {B : Type 0} (held after : Option Area) → IsMended held after → (o : Opened B) (Q : Area → List ℕ → Type 0) (error : ReadErr)
-    → ((now : Area) (name : List ℕ) → Q now name → IsLeafName name ⊎ (IsStagedName name × (get now name ≡ None)))
-    → ((m now : Area) → held ≡ Some m → after ≡ Some now → IfDamagedBy error (λ name. IsUnsettled m o name ⊎ Q now name))
-    → IsCause ⊤ ⊤ (IsMissing held) (catalog_err_of error)
-missing_or held after (inl same) o Q (reading.Damaged name) other damaged = λ m is. ⊎_elim (λ here. inl (page_of m o name here)) (λ there. inr (other m name there)) (damaged m m is (same ∙ is))
-missing_or held after (inr (base, heads, put)) o Q (reading.Damaged name) other damaged = λ m is.
-    let now : Area = with_blob index_name (index_text base heads) m in
-    ⊎_elim (λ here. inl (page_of m o name here)) (λ there. before_index m base heads name (inr (other now name there)))
-    (damaged m now is (put ∙ ap (option_map (with_blob index_name (index_text base heads))) is))
-missing_or held after mended o Q reading.Fault other damaged = tt
-missing_or held after mended o Q reading.Memory other damaged = tt
+-- the commits weren't read
+pub missing_read : {B : Type 0} (a b : Scene B) (error : ReadErr)
+    → ((m now : Area) → a.store.held ≡ Some m → b.store.held ≡ Some now
+    → IfDamagedBy error (λ name. IsUnsettled m a.catalog name ⊎ IsNoLeafAmong now b.catalog.base b.catalog.kept.rows name))
+    → IsCause ⊤ ⊤ (IsMissing a.catalog b.catalog a.store b.store) (catalog_err_of error)
+missing_read a b (reading.Damaged name) damaged = λ m now is at. ⊎_elim (λ here. inl here) (λ there. inr (inl there)) (damaged m now is at)
+missing_read a b reading.Fault damaged = tt
+missing_read a b reading.Memory damaged = tt
 
 -- an open catalog isn't damaged
 pub not_damaged : {X : Type 0} (x : X) (error : ReadErr) → IsRead x (Err error) → IfDamaged (catalog_err_of error) (λ name. ⊥)

@@ -1,5 +1,5 @@
 -- The puts of a job: key by key the documents of the id, its index last, and then the cursor.
-use Rattle.std.specs.Prelude.{◌≡◌, ◌⊎◌, ℕ, List, [], ◌∷◌, ◌++◌, flat_map, Bool, Option, Some, None, IfErr, IfSome, IsErrOf, IsSome, option_map, Result, ⊤}
+use Rattle.std.specs.Prelude.{◌≡◌, ◌⊎◌, ℕ, List, [], ◌∷◌, ◌++◌, flat_map, Bool, true, Option, Some, None, IfErr, IfSome, IsErrOf, IsSome, option_map, Result, ⊤}
 use Rattle.std.specs.declared.result.Result.TheVariants.{Ok, Err}
 use Rattle.std.specs.FinMap.{get}
 use Rattle.std.specs.List.{Contains}
@@ -11,9 +11,11 @@ use Rattle.blob_store.specs.declared.call.Call.{Call}
 use Rattle.blob_store.specs.declared.call.Call.TheVariants.{Put}
 use Rattle.pkg_meta.specs.Catalog.{Catalog}
 use Rattle.pkg_meta.specs.declared.commit.Commit.{Commit}
-use Rattle.catalog_doc.specs.Names.{index_name, leaf_name, page_name, staged_name}
+use Rattle.catalog_doc.specs.Names.{staged_name}
+use Rattle.catalog_doc.specs.declared.row.Row.{Row}
+use Rattle.catalog_items.specs.Leaves.{IsNoLeafOf}
 use Rattle.catalog_core.specs.Framing.{StaysOpen}
-use Rattle.catalog_core.specs.Opened.{IsOpenFor, Opened}
+use Rattle.catalog_core.specs.Opened.{IsOpenFor, IsUnsettled, Opened}
 use Rattle.cursor_doc.specs.Cursor.{cursor_name, cursor_text}
 use Rattle.fold_core.specs.Docs.{Makes, docs_of}
 use Rattle.fold_core.specs.Entries.{Keeps}
@@ -84,17 +86,19 @@ HaveAllBytes {X} docs bytes ids = (id : X) → Contains ids id → HaveBytes byt
 abbrev pub IsStagedName : List ℕ → Type 0
 IsStagedName name = (number place : ℕ) × (nuspec : Bool) × (name ≡ staged_name number place nuspec)
 
--- the index or a page has this name
-abbrev pub IsPageName : List ℕ → Type 0
-IsPageName name = (name ≡ index_name) ⊎ ((k : ℕ) × (name ≡ page_name k))
+-- so has a publish's file that the area doesn't hold
+abbrev pub IsStagedAbsent : Option Area → List ℕ → Type 0
+IsStagedAbsent held name = (m : Area) → held ≡ Some m → IsStagedName name × (get m name ≡ None)
 
--- a leaf has this name
-abbrev pub IsLeafName : List ℕ → Type 0
-IsLeafName name = (number : ℕ) × (place : ℕ) × (name ≡ leaf_name number place)
+-- the leaf of one of these rows has it, and the area holds no leaf of that row
+abbrev pub IsNoLeafAmong : Area → List ℕ → List Row → List ℕ → Type 0
+IsNoLeafAmong m base rows name = (row : Row) × Contains rows row × IsNoLeafOf m base row name
 
--- the name of the index, of a page or of a leaf; or that of a publish's file, which the area doesn't hold
-abbrev pub IsMissing : Option Area → List ℕ → Type 0
-IsMissing held name = (m : Area) → held ≡ Some m → IsPageName name ⊎ (IsLeafName name ⊎ (IsStagedName name × (get m name ≡ None)))
+-- A name is told as damaged for one of three: its blob is why the catalog couldn't be settled; or the area that is left holds
+-- no leaf of a row that is kept, under the leaf's name; or it doesn't hold a publish's file of this name.
+abbrev pub IsMissing : {B : Type 0} → (old new : Opened B) → (before after : Seen) → List ℕ → Type 0
+IsMissing old new before after name = (m now : Area) → before.held ≡ Some m → after.held ≡ Some now
+    → IsUnsettled m old name ⊎ (IsNoLeafAmong now new.base new.kept.rows name ⊎ IsStagedAbsent after.held name)
 
 -- what is told at a moment of a job: the open catalog, its store and the hive's
 pub record Scene (B : Type 0) : Type 1 where
@@ -106,9 +110,10 @@ abbrev pub scene : {B : Type 0} → Opened B → Seen → Seen → Scene B
 scene catalog store hive = record { catalog = catalog; store = store; hive = hive }
 
 -- What a call of a job puts into the hive's area, by the catalog that is open, where that has what ready says. The catalog
--- stays open, each count of faults rises exactly where a call failed, and what is told as damaged is missing.
+-- stays open, and each count of faults rises exactly where a call failed. Of a settled catalog only a publish's file is told
+-- as damaged, and it isn't held.
 pub record PutsInto {A B : Type 0} (calls : Catalog → List Call) (ready : Catalog → Type 0) (before after : Scene B) (result : Result A RoundErr) : Type 0 where
   pub stays : StaysOpen before.catalog after.catalog before.store after.store (IsErrOf result CatalogFault)
   pub counts : CountsFault before.hive.faults after.hive.faults (IsErrOf result HiveFault)
-  pub cause : IfErr result (IsCause ⊤ ⊤ (IsMissing before.store.held))
+  pub cause : before.catalog.settled ≡ true → IfErr result (IsCause ⊤ ⊤ (IsStagedAbsent before.store.held))
   pub puts : (cs : Catalog) → IsOpenFor before.catalog before.store cs → ready cs → HasPut (calls cs) before.hive.held after.hive.held result

@@ -61,7 +61,7 @@ ForOpen at P = (cs : Catalog) → IsOpenFor at.catalog at.store cs → P cs
 module _ {B : Type 0} (keeps : Keeps) (makes : Makes) (before after : Scene B) where
   -- the job stopped after some of the puts, and none where there was a cursor; what it tells as damaged is missing, and of an open catalog nothing is
   pub record HasStopped (error : RoundErr) : Type 0 where
-    pub cause : IsCause ⊤ ⊤ (IsMissing before.store.held) error
+    pub cause : IsCause ⊤ ⊤ (IsMissing before.catalog after.catalog before.store after.store) error
     pub sound : ForOpen before (λ cs. IfDamaged error (λ name. ⊥))
     pub some : ForOpen before (λ cs. HasRunSome (round_puts keeps makes before.catalog.base cs) before.hive.held after.hive.held)
     pub fresh : (after.hive.held ≡ before.hive.held) ⊎ IfSome before.hive.held (λ a. get a cursor_name ≡ None)

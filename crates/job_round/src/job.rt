@@ -98,7 +98,7 @@ pub fn build_once<H: Hive, B: Blobs>(
 
     ensures unsupported { IsErrOf result RoundErr.Unsupported
         → ((B.seen area.new).held ≡ (B.seen area.old).held) × IfSome (B.seen area.old).held (λ a. IsSome (get a cursor_name)) }
-    ensures damaged { IfErr result (λ e. IfDamaged e (IsMissing (B.seen catalog.old.area).held)) }
+    ensures damaged { IfErr result (λ e. IfDamaged e (IsMissing catalog.old catalog.new (B.seen catalog.old.area) (B.seen catalog.new.area))) }
 
     // A catalog that is open isn't damaged: where no store failed and there is no cursor, only memory can be wanting.
     ensures whole { (cs : List Stored) → IsOpenFor catalog.old (B.seen catalog.old.area) cs → IfErr result (λ e. IfDamaged e (λ n. ⊥)) }

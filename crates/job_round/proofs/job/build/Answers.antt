@@ -20,13 +20,13 @@ returns-then-built-clause-stays g c = stays_as _ _ _ (g.met.B.Blobs.now c.args.c
 
 pub returns-in-Err-clause-ended : goal.returns-in-Err-clause-ended
 returns-in-Err-clause-ended g c =
-    not_read g.H.Hive.keeps g.H.Hive.makes _ _ c.in-Err.error c.catalog_err.result c.catalog_err.ensures _ c.in-Err.ensures.stays c.in-Err.ensures.damaged c.in-Err.ensures.reads c.holds_cursor.ensures.same
+    not_read g.H.Hive.keeps g.H.Hive.makes _ _ c.in-Err.error c.catalog_err.result c.catalog_err.ensures c.in-Err.ensures.damaged c.in-Err.ensures.reads c.holds_cursor.ensures.same
 
 pub returns-in_err-put_all-clause-ended : goal.returns-in_err-put_all-clause-ended
 returns-in_err-put_all-clause-ended g c =
     let p = err_from_is_err_and c.from_residual-in_err-put_all.result c.from_residual-in_err-put_all.ensures.1 in
     rw (p.1, p.2) (stopped_putting g.H.Hive.keeps g.H.Hive.makes _ _ _ g.met.H.Hive.staged c.in_ok-built.built c.if-built.false c.in_ok-built.ensures.found c.holds_cursor.ensures.same
-    c.in-Ok.ensures.stays c.in-Ok.commits c.in-Some.last.now c.in-Ok.ensures.reads (rw c.as_slice.ensures at c.in-Some.ensures.value) c.in_err-put_all.field-0.0
+    c.in-Ok.ensures.stays c.in-Ok.ensures.settled c.in-Ok.commits c.in-Some.last.now c.in-Ok.ensures.reads (rw c.as_slice.ensures at c.in-Some.ensures.value) c.in_err-put_all.field-0.0
     (rw c.as_slice-2.ensures at c.in_err-put_all.ensures))
 
 pub returns-in_err-put_all-clause-stays : goal.returns-in_err-put_all-clause-stays
@@ -37,7 +37,7 @@ returns-in_err-put_all-clause-stays g c =
 pub returns-clause-ended : goal.returns-clause-ended
 returns-clause-ended g c =
     finished g.H.Hive.keeps g.H.Hive.makes (scene c.args.catalog.now (g.B.Blobs.seen c.args.catalog.now.area) (g.B.Blobs.seen c.args.area.now)) _ _ g.met.H.Hive.staged c.in_ok-built.built c.if-built.false c.in_ok-built.ensures.found c.holds_cursor.ensures.same
-    c.in-Ok.ensures.stays c.in-Ok.commits c.in-Some.last.now c.in-Ok.ensures.reads (rw c.as_slice.ensures at c.in-Some.ensures.value) tt
+    c.in-Ok.ensures.stays c.in-Ok.ensures.settled c.in-Ok.commits c.in-Some.last.now c.in-Ok.ensures.reads (rw c.as_slice.ensures at c.in-Some.ensures.value) tt
     (rw c.as_slice-2.ensures at c.in_ok-put_all.ensures)
 
 pub returns-clause-stays : goal.returns-clause-stays
