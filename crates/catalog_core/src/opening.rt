@@ -115,6 +115,8 @@ pub fn open_catalog<B: Blobs>(
     ensures refused { IfErr result (λ e. (b : List ℕ) (cs : List Stored) → IsCatalog cs → IsStoreOf (B.seen area) b cs
         → IsRefusedOpening (option_map (λ t. t.now) base.entry) b e.0 × IsStoreOf (B.seen e.1) b cs) }
 
+    ensures settled { IfOk result (λ c. c.settled ≡ true) }
+
     // A crash at each moment leaves an area that spells the catalog.
     ensures moments { IfOk result (λ c. (b : List ℕ) (cs : List Stored) → IsCatalog cs → IsStoreOf (B.seen area) b cs
         → KeepsSpelling (B.seen area) (B.seen c.area) b cs) }

@@ -1,6 +1,5 @@
 -- What a commit answered, and what it left.
-use Rattle.std.proofs.Common.{◌≡◌, ℕ, List, Ok, Err, Result, Some, inl, inr, refl, ◌∙◌, subst, arith}
-use Rattle.blob_store.specs.Area.{Area}
+use Rattle.std.proofs.Common.{◌≡◌, ℕ, List, Ok, Err, Result, inl, inr, refl, ◌∙◌, subst, arith}
 use Rattle.blob_store.specs.Moments.{LeavesOnly}
 use Rattle.blob_store.specs.Seen.{Seen}
 use Rattle.blob_store.proofs.Moments.{weaker}

@@ -8,19 +8,16 @@ use Rattle.blob_store.specs.Seen.{Seen}
 use Rattle.cursor_doc.specs.Cursor.{cursor_name}
 use Rattle.fold_core.specs.Docs.{Makes}
 use Rattle.fold_core.specs.Entries.{Keeps as KeepsDetails}
-use Rattle.catalog_opening.specs.Openings.{IsMended}
 use Rattle.job_round.specs.Errors.{IfDamaged}
-use Rattle.job_round.specs.Puts.{IsMissing}
 use Rattle.job_round.specs.declared.error.RoundErr.{RoundErr}
 use Rattle.job_round.specs.declared.error.RoundErr.TheVariants as round
-use Rattle.job_round.proofs.Steps.{missing_back}
 use Rattle.feed_paths.specs.declared.hives.ServedHive.{ServedHive}
 use Rattle.feed_paths.specs.declared.hives.ServedHive.TheVariants as the
 use Rattle.feed_app.specs.Causes.{round_answer}
 use Rattle.feed_app.specs.Accepts.{Accepts}
 use Rattle.feed_app.specs.Frame.{Explains, IsDone, Keeps, Touches}
 use Rattle.feed_app.specs.Hives.{hive_area, hive_stores, keeps_in, makes_in}
-use Rattle.feed_app.specs.Jobs.{Builds, IsPartlyBuilt, Jobs, job_meaning, job_reach}
+use Rattle.feed_app.specs.Jobs.{Builds, IsPartlyBuilt, IsUnread, Jobs, job_meaning, job_reach}
 use Rattle.feed_app.specs.Outside.{AreaRose, Members, Shows, Sight, held}
 use Rattle.feed_app.specs.Spelled.{ForEach, HasCatalog, HoldsCatalog, Of}
 use Rattle.feed_app.specs.declared.answer.Answer.{Answer}
@@ -54,7 +51,7 @@ module _ {B : Type 0} (m : Members B) (keeps : KeepsDetails) (makes : Makes) (hi
       (λ e. subst (λ (n : AreaName). Explained (Fault n)) (sym e) ((job_touches hive).1, by_area m before.stores after.stores hive (other (ap Fault e)))) is
 
   module _ (old new : Option Area) where
-    build_explains : (answer : Answer) → CatalogCause answer → HiveCause answer → Builds keeps makes hive answer Told.held (HasCatalog Told) old new → Explained answer
+    build_explains : (answer : Answer) → CatalogCause answer → HiveCause answer → Builds keeps makes hive answer (IsUnread Told.held) (HasCatalog Told) old new → Explained answer
     build_explains (Done given) rose other is = tt
     build_explains Usage rose other is = absurd is
     build_explains (Refused why) rose other is = tt
@@ -91,7 +88,7 @@ job_done m hive before after answer keeps rose other is = record {
 
 -- a catalog that is spelled is built in an area without a cursor
 module _ (keeps : KeepsDetails) (makes : Makes) (hive : ServedHive) (told : Seen) (old new : Option Area) (fresh : Area) (base : List ℕ) (cs : Catalog) (has : HasCatalog told base cs) (kept : old ≡ Some fresh) (no_cursor : get fresh cursor_name ≡ None) where
-  not_stopped : (why : Refusal) → Builds keeps makes hive (Refused why) told.held (HasCatalog told) old new → ⊥
+  not_stopped : (why : Refusal) → Builds keeps makes hive (Refused why) (IsUnread told.held) (HasCatalog told) old new → ⊥
   not_stopped UnsupportedArea is = not_both (get fresh cursor_name) (at_some old (λ b. IsSome (get b cursor_name)) fresh kept is.0) no_cursor
   not_stopped Initialised is = is
   not_stopped Uninitialised is = is
@@ -101,7 +98,7 @@ module _ (keeps : KeepsDetails) (makes : Makes) (hive : ServedHive) (told : Seen
   not_stopped (Commit refusal) is = is
   not_stopped Missing is = is
 
-  undamaged : (name : AreaName) (blob : List ℕ) → Builds keeps makes hive (Damaged name blob) told.held (HasCatalog told) old new → ⊥
+  undamaged : (name : AreaName) (blob : List ℕ) → Builds keeps makes hive (Damaged name blob) (IsUnread told.held) (HasCatalog told) old new → ⊥
   undamaged area.Catalog blob is = is.1 base cs has
   undamaged area.Plain blob is = is
   undamaged area.Semver2 blob is = is
@@ -109,15 +106,15 @@ module _ (keeps : KeepsDetails) (makes : Makes) (hive : ServedHive) (told : Seen
   undamaged area.Auto blob is = is
 
 -- what a job of an open catalog answered, behind its opening
-module _ (keeps : KeepsDetails) (makes : Makes) (hive : ServedHive) (Is Are : Of) (before_opening opened old new : Option Area) (mended : IsMended before_opening opened) (to : (base : List ℕ) (cs : Catalog) → Are base cs → Is base cs) where
-  done_as : (given : Reply) → Builds keeps makes hive (Done given) opened Is old new → Builds keeps makes hive (Done given) before_opening Are old new
+module _ (keeps : KeepsDetails) (makes : Makes) (hive : ServedHive) (Is Are : Of) (Damages Lost : List ℕ → Type 0) (old new : Option Area) (lost : (name : List ℕ) → Damages name → Lost name) (to : (base : List ℕ) (cs : Catalog) → Are base cs → Is base cs) where
+  done_as : (given : Reply) → Builds keeps makes hive (Done given) Damages Is old new → Builds keeps makes hive (Done given) Lost Are old new
   done_as (reply.Built which n) is = (is.0, is.1, λ base cs are. is.2 base cs (to base cs are))
   done_as (reply.Idle which n) is = (is.0, is.1, is.2, (λ base cs are. is.3 base cs (to base cs are)), is.4)
   done_as reply.Initialised is = is
   done_as (reply.Committed number stamp) is = is
   done_as (reply.Document bytes) is = is
 
-  refused_as : (why : Refusal) → Builds keeps makes hive (Refused why) opened Is old new → Builds keeps makes hive (Refused why) before_opening Are old new
+  refused_as : (why : Refusal) → Builds keeps makes hive (Refused why) Damages Is old new → Builds keeps makes hive (Refused why) Lost Are old new
   refused_as UnsupportedArea is = is
   refused_as Initialised is = is
   refused_as Uninitialised is = is
@@ -127,13 +124,13 @@ module _ (keeps : KeepsDetails) (makes : Makes) (hive : ServedHive) (Is Are : Of
   refused_as (Commit refusal) is = is
   refused_as Missing is = is
 
-  pub builds_as : (answer : Answer) → Builds keeps makes hive answer opened Is old new → Builds keeps makes hive answer before_opening Are old new
+  pub builds_as : (answer : Answer) → Builds keeps makes hive answer Damages Is old new → Builds keeps makes hive answer Lost Are old new
   builds_as (Done given) is = done_as given is
   builds_as Usage is = is
   builds_as (Refused why) is = refused_as why is
   builds_as (Fault name) is = (is.0, λ base cs are. is.1 base cs (to base cs are))
   builds_as FaultInput is = is
-  builds_as (Damaged area.Catalog name) is = (missing_back before_opening opened mended name is.0, λ base cs are. is.1 base cs (to base cs are))
+  builds_as (Damaged area.Catalog name) is = (lost name is.0, λ base cs are. is.1 base cs (to base cs are))
   builds_as (Damaged area.Plain name) is = is
   builds_as (Damaged area.Semver2 name) is = is
   builds_as (Damaged area.Content name) is = is
@@ -142,15 +139,15 @@ module _ (keeps : KeepsDetails) (makes : Makes) (hive : ServedHive) (Is Are : Of
   builds_as Memory is = λ base cs are. is base cs (to base cs are)
 
 -- an error of a job
-pub stopped : (keeps : KeepsDetails) (makes : Makes) (hive : ServedHive) (e : RoundErr) (catalog old new : Option Area) (Is : Of)
+pub stopped : (keeps : KeepsDetails) (makes : Makes) (hive : ServedHive) (e : RoundErr) (Damages : List ℕ → Type 0) (old new : Option Area) (Is : Of)
     → (e ≡ round.Unsupported → (new ≡ old) × IfSome old (λ a. IsSome (get a cursor_name)))
-    → IfDamaged e (IsMissing catalog) → ForEach Is (λ base cs. IfDamaged e (λ n. ⊥)) → ForEach Is (λ base cs. IsPartlyBuilt keeps makes base cs old new)
-    → Builds keeps makes hive (round_answer (hive_area hive) e) catalog Is old new
-stopped keeps makes hive round.CatalogFault catalog old new Is built lost whole partly = (inl refl, partly)
-stopped keeps makes hive round.HiveFault catalog old new Is built lost whole partly = (inr refl, partly)
-stopped keeps makes hive (round.Damaged name) catalog old new Is built lost whole partly = (lost, whole)
-stopped keeps makes hive round.Unsupported catalog old new Is built lost whole partly = let kept = built refl in (kept.1, kept.0)
-stopped keeps makes hive round.Memory catalog old new Is built lost whole partly = partly
+    → IfDamaged e Damages → ForEach Is (λ base cs. IfDamaged e (λ n. ⊥)) → ForEach Is (λ base cs. IsPartlyBuilt keeps makes base cs old new)
+    → Builds keeps makes hive (round_answer (hive_area hive) e) Damages Is old new
+stopped keeps makes hive round.CatalogFault Damages old new Is built lost whole partly = (inl refl, partly)
+stopped keeps makes hive round.HiveFault Damages old new Is built lost whole partly = (inr refl, partly)
+stopped keeps makes hive (round.Damaged name) Damages old new Is built lost whole partly = (lost, whole)
+stopped keeps makes hive round.Unsupported Damages old new Is built lost whole partly = let kept = built refl in (kept.1, kept.0)
+stopped keeps makes hive round.Memory Damages old new Is built lost whole partly = partly
 
 abbrev IsReady : Seen → Option Area → Type 0
 IsReady told old = Shows told.held HoldsCatalog × Shows old (λ blobs. get blobs cursor_name ≡ None)

@@ -14,3 +14,4 @@ pub mod Plain
 pub mod Publishes
 pub mod Served
 pub mod Tested
+pub mod Unread

@@ -4,10 +4,11 @@ use Rattle.std.specs.FinMap.{get}
 use Rattle.blob_store.specs.Area.{Area}
 use Rattle.blob_store.specs.Seen.{Seen}
 use Rattle.pkg_meta.specs.Catalog.{Catalog}
+use Rattle.catalog_doc.specs.Names.{leaf_name}
 use Rattle.cursor_doc.specs.Cursor.{cursor_name}
 use Rattle.fold_core.specs.Docs.{Makes}
 use Rattle.fold_core.specs.Entries.{Keeps}
-use Rattle.job_round.specs.Puts.{HasRun, HasRunSome, IsMissing}
+use Rattle.job_round.specs.Puts.{HasRun, HasRunSome, IsStagedName}
 use Rattle.job_round.specs.Round.{IsSettledOver, round_puts}
 use Rattle.feed_paths.specs.declared.hives.ServedHive.{ServedHive}
 use Rattle.feed_paths.specs.declared.hives.ServedHive.TheVariants.{Plain, SemVer2, Content}
@@ -21,6 +22,10 @@ use Rattle.feed_app.specs.declared.answer.Answer.TheVariants.{Done, Refused, Fau
 use Rattle.feed_app.specs.declared.answer.Refusal.TheVariants.{UnsupportedArea}
 use Rattle.feed_app.specs.declared.answer.Reply.TheVariants as reply
 use Rattle.feed_app.specs.declared.area.AreaName.TheVariants as area
+
+-- a name that a job tells as damaged, behind the opening: that of a leaf, or of a publish's file that the catalog's area doesn't hold
+abbrev pub IsUnread : Option Area → List ℕ → Type 0
+IsUnread catalog name = (m : Area) → catalog ≡ Some m → ((number place : ℕ) × (name ≡ leaf_name number place)) ⊎ (IsStagedName name × (get m name ≡ None))
 
 -- the hive's area has no cursor
 abbrev pub IsFresh : Option Area → Type 0
@@ -37,20 +42,20 @@ module _ (keeps : Keeps) (makes : Makes) where
   IsPartlyBuilt base cs old new = HasRunSome (round_puts keeps makes base cs) old new
 
   module _ (hive : ServedHive) where
-    -- what is answered of an open catalog: of each catalog of this kind, by the areas of the catalog and of the hive
-    abbrev pub Builds : Answer → Option Area → Of → Option Area → Option Area → Type 0
-    Builds (Done (reply.Built which n)) catalog Is old new =
+    -- what is answered of an open catalog: of each catalog of this kind, by what may be told as damaged, and by the hive's area
+    abbrev pub Builds : Answer → (List ℕ → Type 0) → Of → Option Area → Option Area → Type 0
+    Builds (Done (reply.Built which n)) Damages Is old new =
         (which ≡ hive) × IsFresh old × ForEach Is (λ base cs. (n ≡ length cs) × (0 < n) × IsBuilt base cs old new)
-    Builds (Done (reply.Idle which n)) catalog Is old new = (which ≡ hive) × IsFresh old × (n ≡ 0) × ForEach Is (λ base cs. cs ≡ []) × (new ≡ old)
-    Builds (Refused UnsupportedArea) catalog Is old new = IfSome old (λ blobs. IsSome (get blobs cursor_name)) × (new ≡ old)
-    Builds (Damaged area.Catalog name) catalog Is old new = IsMissing catalog name × ForEach Is (λ base cs. ⊥)
-    Builds (Fault name) catalog Is old new = ((name ≡ area.Catalog) ⊎ (name ≡ hive_area hive)) × ForEach Is (λ base cs. IsPartlyBuilt base cs old new)
-    Builds Memory catalog Is old new = ForEach Is (λ base cs. IsPartlyBuilt base cs old new)
-    Builds _ catalog Is old new = ⊥
+    Builds (Done (reply.Idle which n)) Damages Is old new = (which ≡ hive) × IsFresh old × (n ≡ 0) × ForEach Is (λ base cs. cs ≡ []) × (new ≡ old)
+    Builds (Refused UnsupportedArea) Damages Is old new = IfSome old (λ blobs. IsSome (get blobs cursor_name)) × (new ≡ old)
+    Builds (Damaged area.Catalog name) Damages Is old new = Damages name × ForEach Is (λ base cs. ⊥)
+    Builds (Fault name) Damages Is old new = ((name ≡ area.Catalog) ⊎ (name ≡ hive_area hive)) × ForEach Is (λ base cs. IsPartlyBuilt base cs old new)
+    Builds Memory Damages Is old new = ForEach Is (λ base cs. IsPartlyBuilt base cs old new)
+    Builds _ Damages Is old new = ⊥
 
     -- what a job answers: of an area that opens no catalog, or of one that is open
     abbrev pub Jobs : Answer → Seen → Type 0 → Option Area → Option Area → Type 0
-    Jobs answer catalog untouched old new = (NotOpened answer catalog × untouched) ⊎ Builds answer catalog.held (HasCatalog catalog) old new
+    Jobs answer catalog untouched old new = (NotOpened answer catalog × untouched) ⊎ Builds answer (IsUnread catalog.held) (HasCatalog catalog) old new
 
 -- it opens the catalog and changes the hive's area
 abbrev pub job_reach : ServedHive → Reach

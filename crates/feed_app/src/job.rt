@@ -2,6 +2,7 @@
 ghost use Rattle.std.specs.Prelude.{◌≡◌, ℕ, List, Option};
 ghost use Rattle.feed_base.specs.Counts.{HasRisen};
 ghost use Rattle.catalog_core.specs.Framing.{StaysOpen};
+ghost use Rattle.job_round.specs.Puts.{IsMissing};
 ghost use Rattle.feed_app.specs.Frame.{IsDone};
 ghost use Rattle.feed_app.specs.Hives.{KeepsOthers, by_hive, hive_area, keeps_in, makes_in};
 ghost use Rattle.feed_app.specs.Jobs.{Builds, job_meaning};
@@ -26,8 +27,8 @@ fn job_in<H: Hive, B: Blobs>(
     area: &mut B,
     hive: ServedHive,
 ) -> Answer
-    ensures is { Builds H.keeps H.makes hive result (B.seen catalog.old.area).held (IsOpenAs catalog.old (B.seen catalog.old.area))
-        (B.seen area.old).held (B.seen area.new).held }
+    ensures is { Builds H.keeps H.makes hive result (IsMissing catalog.old catalog.new (B.seen catalog.old.area) (B.seen catalog.new.area))
+        (IsOpenAs catalog.old (B.seen catalog.old.area)) (B.seen area.old).held (B.seen area.new).held }
     ensures stays { StaysOpen catalog.old catalog.new (B.seen catalog.old.area) (B.seen catalog.new.area) (result ≡ Answer.Fault AreaName.Catalog) }
     ensures hive_cause { result ≡ Answer.Fault (hive_area hive) → HasRisen (B.seen area.old).faults (B.seen area.new).faults }
 {
@@ -47,7 +48,8 @@ fn job_of<B: Blobs>(
     content: &mut B,
     hive: ServedHive,
 ) -> Answer
-    ensures is { Builds (keeps_in hive) (makes_in hive) hive result (B.seen catalog.old.area).held (IsOpenAs catalog.old (B.seen catalog.old.area))
+    ensures is { Builds (keeps_in hive) (makes_in hive) hive result (IsMissing catalog.old catalog.new (B.seen catalog.old.area) (B.seen catalog.new.area))
+        (IsOpenAs catalog.old (B.seen catalog.old.area))
         (held B.Blobs (by_hive plain.old semver2.old content.old hive)) (held B.Blobs (by_hive plain.new semver2.new content.new hive)) }
     ensures stays { StaysOpen catalog.old catalog.new (B.seen catalog.old.area) (B.seen catalog.new.area) (result ≡ Answer.Fault AreaName.Catalog) }
     ensures hive_cause { result ≡ Answer.Fault (hive_area hive)

@@ -1,4 +1,4 @@
-use Rattle.std.proofs.Common.{◌≡◌, inl, inr, refl, sym, subst}
+use Rattle.std.proofs.Common.{inl, inr, refl, sym, subst}
 use Rattle.feed_base.specs.Counts.{HasRisen}
 use Rattle.feed_paths.specs.Paths.{without_query}
 use Rattle.feed_paths.specs.declared.hives.ServedHive.TheVariants as the
