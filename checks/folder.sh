@@ -134,9 +134,9 @@ check 'publish'
 stamp=$(sed -n 's/^committed 1 //p' "$work/output")
 refuses 'the same publish again' 3 'refused exists 0 1' publish
 cp "$work/nothing" "$work/input"
-refuses 'a publish of nothing' 3 'refused unsupported' publish
+refuses 'a publish of nothing' 3 'refused empty' publish
 cp "$work/cut" "$work/input"
-refuses 'a publish cut by one byte' 3 'refused unsupported' publish
+refuses 'a publish cut by one byte' 3 'refused body 0' publish
 cp "$work/nothing" "$work/input"
 
 printf '%s' 'abc' >"$work/want"

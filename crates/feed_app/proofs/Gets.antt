@@ -19,7 +19,7 @@ use Rattle.feed_app.specs.Spelled.{HasCatalog, HoldsCatalog, Of}
 use Rattle.feed_app.specs.declared.answer.Answer.{Answer}
 use Rattle.feed_app.specs.declared.answer.Answer.TheVariants.{Done, Usage, Refused, Fault, FaultInput, Damaged, TooLong, Memory}
 use Rattle.feed_app.specs.declared.answer.Refusal.{Refusal}
-use Rattle.feed_app.specs.declared.answer.Refusal.TheVariants.{Initialised, Uninitialised, UnsupportedBody, UnsupportedCatalog, UnsupportedPath, UnsupportedArea, Commit, Missing}
+use Rattle.feed_app.specs.declared.answer.Refusal.TheVariants.{Initialised, Uninitialised, UnsupportedCatalog, UnsupportedPath, UnsupportedArea, Commit, Missing, Body, Meta}
 use Rattle.feed_app.specs.declared.answer.Reply.{Reply}
 use Rattle.feed_app.specs.declared.answer.Reply.TheVariants as reply
 use Rattle.feed_app.specs.declared.area.AreaName.{AreaName}
@@ -121,9 +121,10 @@ module _ (bytes : List ℕ) (document : Option (List ℕ)) (has : document ≡ S
 
   refusal_held : (why : Refusal) → OfDocument (Refused why) document → ⊥
   refusal_held Missing is = some_none document bytes has is
+  refusal_held (Body at) is = is
+  refusal_held (Meta place why) is = is
   refusal_held Initialised is = is
   refusal_held Uninitialised is = is
-  refusal_held UnsupportedBody is = is
   refusal_held UnsupportedCatalog is = is
   refusal_held UnsupportedPath is = is
   refusal_held UnsupportedArea is = is
@@ -154,9 +155,10 @@ module _ (told : Option Area) (blobs : Area) (bytes : List ℕ) (there : told �
 
   hive_refusal : (why : Refusal) → OfHive hive (Refused why) rest told → ⊥
   hive_refusal Missing is = some_none (get blobs (stored_name rest)) bytes holds (at_some told (λ a. get a (stored_name rest) ≡ None) blobs there is)
+  hive_refusal (Body at) is = is
+  hive_refusal (Meta place why) is = is
   hive_refusal Initialised is = is
   hive_refusal Uninitialised is = is
-  hive_refusal UnsupportedBody is = is
   hive_refusal UnsupportedCatalog is = is
   hive_refusal UnsupportedPath is = is
   hive_refusal UnsupportedArea is = is

@@ -15,7 +15,7 @@ use Rattle.feed_app.specs.Outside.{AreaRose, Members, Shows, Sight, held}
 use Rattle.feed_app.specs.declared.answer.Answer.{Answer}
 use Rattle.feed_app.specs.declared.answer.Answer.TheVariants.{Done, Usage, Refused, Fault, FaultInput, Damaged, TooLong, Memory}
 use Rattle.feed_app.specs.declared.answer.Refusal.{Refusal}
-use Rattle.feed_app.specs.declared.answer.Refusal.TheVariants.{Initialised, Uninitialised, UnsupportedBody, UnsupportedCatalog, UnsupportedPath, UnsupportedArea, Commit, Missing}
+use Rattle.feed_app.specs.declared.answer.Refusal.TheVariants.{Initialised, Uninitialised, UnsupportedCatalog, UnsupportedPath, UnsupportedArea, Commit, Missing, Body, Meta}
 use Rattle.feed_app.specs.declared.area.AreaName.TheVariants as area
 use Rattle.feed_app.proofs.Absent.{not_both}
 
@@ -38,12 +38,13 @@ module _ {B : Type 0} (m : Members B) (base : List ℕ) (before after : Sight B)
   refused : (why : Refusal) → Shows (held m before.stores.catalog) (λ blobs. get blobs index_name ≡ None) → Inits base (held m before.stores.catalog) (Refused why) (held m after.stores.catalog) → ⊥
   refused Initialised ready is = not_both (get ready.0 index_name) (at_some (held m before.stores.catalog) (λ blobs. IsSome (get blobs index_name) × (held m after.stores.catalog ≡ Some blobs)) ready.0 ready.1 is).0 ready.2
   refused Uninitialised ready is = is
-  refused UnsupportedBody ready is = is
   refused UnsupportedCatalog ready is = is
   refused UnsupportedPath ready is = is
   refused UnsupportedArea ready is = is
   refused (Commit refusal) ready is = is
   refused Missing ready is = is
+  refused (Body at) ready is = is
+  refused (Meta place why) ready is = is
 
 made_or_not : (base : List ℕ) (m : Area) (new : Option Area) → ((now : Area) × (new ≡ Some now) × IsFirstArea base m now) → (new ≡ Some m) ⊎ IsMade base m new
 made_or_not base m new (now, is, inl same) = inl (is ∙ ap Some same)

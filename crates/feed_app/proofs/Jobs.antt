@@ -23,7 +23,7 @@ use Rattle.feed_app.specs.Spelled.{ForEach, HasCatalog, HoldsCatalog, Of}
 use Rattle.feed_app.specs.declared.answer.Answer.{Answer}
 use Rattle.feed_app.specs.declared.answer.Answer.TheVariants.{Done, Usage, Refused, Fault, FaultInput, Damaged, TooLong, Memory}
 use Rattle.feed_app.specs.declared.answer.Refusal.{Refusal}
-use Rattle.feed_app.specs.declared.answer.Refusal.TheVariants.{Initialised, Uninitialised, UnsupportedBody, UnsupportedCatalog, UnsupportedPath, UnsupportedArea, Commit, Missing}
+use Rattle.feed_app.specs.declared.answer.Refusal.TheVariants.{Initialised, Uninitialised, UnsupportedCatalog, UnsupportedPath, UnsupportedArea, Commit, Missing, Body, Meta}
 use Rattle.feed_app.specs.declared.answer.Reply.{Reply}
 use Rattle.feed_app.specs.declared.answer.Reply.TheVariants as reply
 use Rattle.feed_app.specs.declared.area.AreaName.{AreaName}
@@ -92,11 +92,12 @@ module _ (keeps : KeepsDetails) (makes : Makes) (hive : ServedHive) (told : Seen
   not_stopped UnsupportedArea is = not_both (get fresh cursor_name) (at_some old (λ b. IsSome (get b cursor_name)) fresh kept is.0) no_cursor
   not_stopped Initialised is = is
   not_stopped Uninitialised is = is
-  not_stopped UnsupportedBody is = is
   not_stopped UnsupportedCatalog is = is
   not_stopped UnsupportedPath is = is
   not_stopped (Commit refusal) is = is
   not_stopped Missing is = is
+  not_stopped (Body at) is = is
+  not_stopped (Meta place why) is = is
 
   undamaged : (name : AreaName) (blob : List ℕ) → Builds keeps makes hive (Damaged name blob) (IsUnread told.held) (HasCatalog told) old new → ⊥
   undamaged area.Catalog blob is = is.1 base cs has
@@ -118,11 +119,12 @@ module _ (keeps : KeepsDetails) (makes : Makes) (hive : ServedHive) (Is Are : Of
   refused_as UnsupportedArea is = is
   refused_as Initialised is = is
   refused_as Uninitialised is = is
-  refused_as UnsupportedBody is = is
   refused_as UnsupportedCatalog is = is
   refused_as UnsupportedPath is = is
   refused_as (Commit refusal) is = is
   refused_as Missing is = is
+  refused_as (Body at) is = is
+  refused_as (Meta place why) is = is
 
   pub builds_as : (answer : Answer) → Builds keeps makes hive answer Damages Is old new → Builds keeps makes hive answer Lost Are old new
   builds_as (Done given) is = done_as given is

@@ -12,7 +12,7 @@ use Rattle.catalog_core.specs.Committing.{Commits, MayBeCommitted, with_made, Wi
 use Rattle.feed_app.specs.Answers.{status_of}
 use Rattle.feed_app.specs.Openings.{IsOfStore}
 use Rattle.feed_app.specs.Outside.{Members, Sight}
-use Rattle.feed_app.specs.Publishes.{changes_of, NotTaken, Publishes}
+use Rattle.feed_app.specs.Publishes.{NotTaken, Publishes}
 use Rattle.feed_app.specs.Spelled.{ForSpelled, HasCatalog}
 use Rattle.feed_app.specs.declared.answer.Answer.{Answer}
 use Rattle.feed_app.specs.declared.answer.Answer.TheVariants.{Done, Usage, Refused, Fault, FaultInput, Damaged, TooLong, Memory}
@@ -48,12 +48,12 @@ Left before after base cs = (changes : List Change) × (now : ℕ) × WithOrWith
 module _ {B : Type 0} (m : Members B) (before after : Sight B) (answer : Answer) where
   pub found : Publishes m before answer after → status_of answer ≡ 0 → ForSpelled (m.seen before.stores.catalog) (Found (m.seen after.stores.catalog))
   found (inl (not_taken, same, unasked)) zero = λ base cs has. absurd (not_taken_zero answer before.input.told not_taken zero)
-  found (inr (meta, nuspec, nupkg, brings, inl (inl closed, spelled, unasked))) zero = λ base cs has. absurd (of_store_zero answer (closed.of_store base cs has) zero)
-  found (inr (meta, nuspec, nupkg, brings, inl (inr memory, spelled, unasked))) zero = λ base cs has. absurd (let no : 8 ≡ 0 = sym (ap status_of memory) ∙ zero in omega (arith, no))
-  found (inr (meta, nuspec, nupkg, brings, inr (now, r, tells, is, commits))) zero = λ base cs has.
+  found (inr (changes, brings, inl (inl closed, spelled, unasked))) zero = λ base cs has. absurd (of_store_zero answer (closed.of_store base cs has) zero)
+  found (inr (changes, brings, inl (inr memory, spelled, unasked))) zero = λ base cs has. absurd (let no : 8 ≡ 0 = sym (ap status_of memory) ∙ zero in omega (arith, no))
+  found (inr (changes, brings, inr (now, r, tells, is, commits))) zero = λ base cs has.
       let done = reply_done r (sym (ap status_of is) ∙ zero) in
-      let all = subst (λ (x : Result Committed CommitErr). Commits cs (changes_of meta nuspec nupkg) now x (HasCatalog (m.seen after.stores.catalog) base)) done.1 (commits.commits base cs has) in
-      (changes_of meta nuspec nupkg, now, all.0, all.2)
+      let all = subst (λ (x : Result Committed CommitErr). Commits cs changes now x (HasCatalog (m.seen after.stores.catalog) base)) done.1 (commits.commits base cs has) in
+      (changes, now, all.0, all.2)
 
   pub left : IsSure (m.seen before.stores.catalog) → Publishes m before answer after → ForSpelled (m.seen before.stores.catalog) (Left (m.seen before.stores.catalog) (m.seen after.stores.catalog))
   left sure (inl (not_taken, same, unasked)) = unmoved_by same
@@ -61,13 +61,13 @@ module _ {B : Type 0} (m : Members B) (before after : Sight B) (answer : Answer)
       unmoved_by : after.stores.catalog ≡ before.stores.catalog → ForSpelled (m.seen before.stores.catalog) (Left (m.seen before.stores.catalog) (m.seen after.stores.catalog))
       unmoved_by is = λ base cs has. subst (λ (x : B). Left (m.seen before.stores.catalog) (m.seen x) base cs) (sym is)
           ([], 0, inl has, started (m.seen before.stores.catalog) has.store.0 (λ area. WithOrWithout cs [] 0 (SpellsCatalog area base)) sure has.store.1 (inl has.store.2))
-  left sure (inr (meta, nuspec, nupkg, brings, inl (cause, spelled, unasked))) = λ base cs has.
+  left sure (inr (changes, brings, inl (cause, spelled, unasked))) = λ base cs has.
       let at = spelled.spelled base cs has in (
-        changes_of meta nuspec nupkg,
+        changes,
         0,
         inl at.0,
         weaker (m.seen before.stores.catalog) (m.seen after.stores.catalog) (λ area. SpellsCatalog area base cs)
-            (λ area. WithOrWithout cs (changes_of meta nuspec nupkg) 0 (SpellsCatalog area base)) at.1 (λ area here. inl here),
+            (λ area. WithOrWithout cs changes 0 (SpellsCatalog area base)) at.1 (λ area here. inl here),
       )
-  left sure (inr (meta, nuspec, nupkg, brings, inr (now, r, tells, is, commits))) = λ base cs has.
-      (changes_of meta nuspec nupkg, now, with_or_without cs (changes_of meta nuspec nupkg) now r (HasCatalog (m.seen after.stores.catalog) base) (commits.commits base cs has), commits.moments base cs has)
+  left sure (inr (changes, brings, inr (now, r, tells, is, commits))) = λ base cs has.
+      (changes, now, with_or_without cs changes now r (HasCatalog (m.seen after.stores.catalog) base) (commits.commits base cs has), commits.moments base cs has)

@@ -10,7 +10,6 @@ pub mod Jobs
 pub mod Left
 pub mod Names
 pub mod Places
-pub mod Plain
 pub mod Publishes
 pub mod Served
 pub mod Tested

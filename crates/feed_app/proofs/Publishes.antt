@@ -2,23 +2,26 @@
 use Rattle.std.proofs.Common.{◌≡◌, ◌≤◌, ◌∙◌, ℕ, List, length, Option, Some, inl, inr, refl, sym, subst}
 use Rattle.std.specs.Prelude.{Result, Ok, Err}
 use Rattle.feed_base.proofs.Options.{at_some}
+use Rattle.admin_wire.specs.Bodies.{ArePublishes, IsRecordOf, IsRefusedPublish, IsRefusedRecord}
+use Rattle.admin_wire.specs.declared.error.BodyErr.{BodyErr}
+use Rattle.admin_wire.specs.declared.error.BodyErr.TheVariants as body
+use Rattle.admin_wire.proofs.OneRecord.{records_determined}
+use Rattle.admin_wire.proofs.OneStop.{read_or_refused}
 use Rattle.blob_store.specs.Area.{Area}
-use Rattle.pkg_meta.specs.declared.meta.Meta.{Meta}
 use Rattle.catalog_doc.specs.declared.change.Change.{Change}
 use Rattle.catalog_doc.specs.declared.change.Committed.{Committed}
 use Rattle.catalog_doc.specs.declared.error.CommitErr.{CommitErr}
 use Rattle.catalog_doc.specs.declared.error.CommitErr.TheVariants as error
 use Rattle.catalog_core.specs.Committing.{MayBeCommitted}
 use Rattle.feed_app.specs.Accepts.{Accepts}
-use Rattle.feed_app.specs.Body.{IsPublishBody, IsPublishOf}
 use Rattle.feed_app.specs.Frame.{Explains, most_input}
 use Rattle.feed_app.specs.Outside.{AreaRose, Members, Rose, Sight, held}
-use Rattle.feed_app.specs.Publishes.{Brings, changes_of, commit_reply, CommitsAt, Ends, IsTakeable, NotTaken, Publishes, publish_meaning}
+use Rattle.feed_app.specs.Publishes.{Brings, commit_reply, CommitsAt, Ends, IsRefusedBody, IsTakeable, NotTaken, Publishes, publish_meaning}
 use Rattle.feed_app.specs.Spelled.{HasCatalog, HoldsCatalog}
 use Rattle.feed_app.specs.declared.answer.Answer.{Answer}
 use Rattle.feed_app.specs.declared.answer.Answer.TheVariants.{Done, Usage, Refused, Fault, FaultInput, Damaged, TooLong, Memory}
 use Rattle.feed_app.specs.declared.answer.Refusal.{Refusal}
-use Rattle.feed_app.specs.declared.answer.Refusal.TheVariants.{Initialised, Uninitialised, UnsupportedBody, UnsupportedCatalog, UnsupportedPath, UnsupportedArea, Commit, Missing}
+use Rattle.feed_app.specs.declared.answer.Refusal.TheVariants.{Initialised, Uninitialised, UnsupportedCatalog, UnsupportedPath, UnsupportedArea, Commit, Missing, Body, Meta}
 use Rattle.feed_app.specs.declared.area.AreaName.{AreaName}
 use Rattle.feed_app.specs.declared.area.AreaName.TheVariants as area
 use Rattle.feed_app.proofs.Closed.{closed_explains}
@@ -65,19 +68,24 @@ module _ {B : Type 0} (m : Members B) (before after : Sight B) where
       subst Explained (sym is) (commit_explains changes now r (λ fault. rose (is ∙ fault)) commits)
 
   -- the area can take what the input has
-  module _ (body : List ℕ) (area : Area) (is_body : before.input.told ≡ Some body) (there : held m before.stores.catalog ≡ Some area) (can : IsTakeable area body) where
+  module _ (bytes : List ℕ) (area : Area) (is_body : before.input.told ≡ Some bytes) (there : held m before.stores.catalog ≡ Some area) (can : IsTakeable area bytes) where
     abbrev its : HoldsCatalog area
     its = can.2.0
 
     its_catalog : HasCatalog (m.seen before.stores.catalog) its.0 its.1
     its_catalog = record { lawful = its.2; store = (area, there, its.3) }
 
-    its_taken : (meta : Meta) (nuspec nupkg : List ℕ) (now : ℕ) → Brings before.input.told meta nuspec nupkg → MayBeCommitted its.1 (changes_of meta nuspec nupkg) now
-    its_taken meta nuspec nupkg now brings =
-        can.2.1 its.0 its.1 meta nuspec nupkg now its.2 its.3 (at_some before.input.told (λ b. (length b ≤ most_input) × IsPublishOf b meta nuspec nupkg) body is_body brings).1
+    its_taken : (changes : List Change) (now : ℕ) → Brings before.input.told changes → MayBeCommitted its.1 changes now
+    its_taken changes now brings =
+        can.2.1 its.0 its.1 changes now its.2 its.3 (at_some before.input.told (λ b. (length b ≤ most_input) × ArePublishes b changes) bytes is_body brings).1
+
+    not_refused_body : (e : BodyErr) → IsRefusedBody before.input.told e → ⊥
+    not_refused_body e is =
+        read_or_refused IsRecordOf IsRefusedRecord records_determined bytes can.1.0 e can.1.1 (at_some before.input.told (λ b. (length b ≤ most_input) × IsRefusedPublish b e) bytes is_body is).1
 
     input_taken : (why : Refusal) → NotTaken (Refused why) before.input.told → ⊥
-    input_taken UnsupportedBody is = (at_some before.input.told (λ b. (length b ≤ most_input) × (IsPublishBody b → ⊥)) body is_body is).1 can.1
+    input_taken (Body at) is = not_refused_body (body.Shape at) is
+    input_taken (Meta place why) is = not_refused_body (body.Meta place why) is
     input_taken Initialised is = is
     input_taken Uninitialised is = is
     input_taken UnsupportedCatalog is = is
@@ -88,17 +96,17 @@ module _ {B : Type 0} (m : Members B) (before after : Sight B) where
 
     refused : (why : Refusal) → Publishes m before (Refused why) after → ⊥
     refused why (inl (not_taken, same, unasked)) = input_taken why not_taken
-    refused why (inr (meta, nuspec, nupkg, brings, inl (inl closed, spelled, unasked))) = closed.of_store its.0 its.1 its_catalog
-    refused why (inr (meta, nuspec, nupkg, brings, inl (inr memory, spelled, unasked))) = cc memory
-    refused why (inr (meta, nuspec, nupkg, brings, inr (now, r, tells, is, commits))) =
-        not_refused its.1 (changes_of meta nuspec nupkg) now (HasCatalog (m.seen after.stores.catalog) its.0) why r (its_taken meta nuspec nupkg now brings) (sym is) (commits.commits its.0 its.1 its_catalog)
+    refused why (inr (changes, brings, inl (inl closed, spelled, unasked))) = closed.of_store its.0 its.1 its_catalog
+    refused why (inr (changes, brings, inl (inr memory, spelled, unasked))) = cc memory
+    refused why (inr (changes, brings, inr (now, r, tells, is, commits))) =
+        not_refused its.1 changes now (HasCatalog (m.seen after.stores.catalog) its.0) why r (its_taken changes now brings) (sym is) (commits.commits its.0 its.1 its_catalog)
 
     undamaged : (name : AreaName) (blob : List ℕ) → Publishes m before (Damaged name blob) after → ⊥
     undamaged name blob (inl (not_taken, same, unasked)) = not_taken
-    undamaged name blob (inr (meta, nuspec, nupkg, brings, inl (inl closed, spelled, unasked))) = closed.of_store its.0 its.1 its_catalog
-    undamaged name blob (inr (meta, nuspec, nupkg, brings, inl (inr memory, spelled, unasked))) = cc memory
-    undamaged name blob (inr (meta, nuspec, nupkg, brings, inr (now, r, tells, is, commits))) =
-        not_damaged its.1 (changes_of meta nuspec nupkg) now (HasCatalog (m.seen after.stores.catalog) its.0) name blob r (sym is) (commits.commits its.0 its.1 its_catalog)
+    undamaged name blob (inr (changes, brings, inl (inl closed, spelled, unasked))) = closed.of_store its.0 its.1 its_catalog
+    undamaged name blob (inr (changes, brings, inl (inr memory, spelled, unasked))) = cc memory
+    undamaged name blob (inr (changes, brings, inr (now, r, tells, is, commits))) =
+        not_damaged its.1 changes now (HasCatalog (m.seen after.stores.catalog) its.0) name blob r (sym is) (commits.commits its.0 its.1 its_catalog)
 
 pub publish_accepts : {B : Type 0} (m : Members B) → Accepts (publish_meaning m)
 publish_accepts m = record {

@@ -1,6 +1,7 @@
 -- What is written for each answer, and its status.
 use Rattle.std.specs.Prelude.{◌++◌, ℕ, List, codes, decimal}
 use Rattle.ticks.specs.Stamp.{stamp_text}
+use Rattle.admin_wire.specs.Lines.{number_text, refused_meta_text}
 use Rattle.feed_paths.specs.Hives.{hive_word}
 use Rattle.feed_paths.specs.declared.hives.ServedHive.{ServedHive}
 use Rattle.feed_app.specs.declared.answer.Answer.{Answer}
@@ -8,7 +9,7 @@ use Rattle.feed_app.specs.declared.answer.Answer.TheVariants.{Done, Usage, Refus
 use Rattle.feed_app.specs.declared.answer.CommitRefusal.{CommitRefusal}
 use Rattle.feed_app.specs.declared.answer.CommitRefusal.TheVariants.{Exists, Absent, Already, Twice, IdFull, Full, ClockEnd, Empty, TooMany}
 use Rattle.feed_app.specs.declared.answer.Refusal.{Refusal}
-use Rattle.feed_app.specs.declared.answer.Refusal.TheVariants.{Initialised, Uninitialised, UnsupportedBody, UnsupportedCatalog, UnsupportedPath, UnsupportedArea, Commit, Missing}
+use Rattle.feed_app.specs.declared.answer.Refusal.TheVariants.{Initialised, Uninitialised, UnsupportedCatalog, UnsupportedPath, UnsupportedArea, Commit, Missing, Body, Meta}
 use Rattle.feed_app.specs.declared.answer.Reply.{Reply}
 use Rattle.feed_app.specs.declared.answer.Reply.TheVariants as reply
 use Rattle.feed_app.specs.declared.area.AreaName.{AreaName}
@@ -62,12 +63,13 @@ commit_refusal_text (TooMany count) = counted_text (codes "toomany") count
 abbrev pub refusal_text : Refusal → List ℕ
 refusal_text Initialised = codes "refused initialised\n"
 refusal_text Uninitialised = codes "refused uninitialised\n"
-refusal_text UnsupportedBody = codes "refused unsupported\n"
 refusal_text UnsupportedCatalog = codes "refused unsupported\n"
 refusal_text UnsupportedPath = codes "refused unsupported\n"
 refusal_text UnsupportedArea = codes "refused unsupported\n"
 refusal_text (Commit refusal) = commit_refusal_text refusal
 refusal_text Missing = codes "refused missing\n"
+refusal_text (Body at) = number_text (codes "refused body") at
+refusal_text (Meta place why) = refused_meta_text place why
 
 -- the line for a fault of an area's store
 abbrev pub fault_text : AreaName → List ℕ

@@ -1,10 +1,8 @@
 pub mod Accepts
 pub mod Answers
 pub mod Bases
-pub mod Body
 pub mod Causes
 pub mod Commands
-pub mod Cuts
 pub mod Does
 pub mod Frame
 pub mod Gets

@@ -1,21 +1,21 @@
 -- The command `publish`. Where the source tells its bytes and the store its area, the conditions of an answer hold those
 -- of the steps before it: input, body, opening, clock, commit.
-use Rattle.std.specs.Prelude.{◌≡◌, ◌⊎◌, ◌≤◌, ◌<◌, ℕ, List, [], ◌∷◌, length, Option, IfSome, Result, ⊤}
+use Rattle.std.specs.Prelude.{◌≡◌, ◌⊎◌, ◌≤◌, ◌<◌, ℕ, List, length, Option, IfSome, Result, ⊤}
 use Rattle.std.specs.declared.result.Result.TheVariants.{Ok, Err}
+use Rattle.admin_wire.specs.Bodies.{ArePublishes, IsRefusedPublish}
+use Rattle.admin_wire.specs.declared.error.BodyErr.{BodyErr}
+use Rattle.admin_wire.specs.declared.error.BodyErr.TheVariants as body
 use Rattle.feed_base.specs.Clock.{Tells}
 use Rattle.blob_store.specs.Area.{Area}
 use Rattle.blob_store.specs.Moments.{LeavesOnly}
 use Rattle.blob_store.specs.Seen.{Seen}
 use Rattle.pkg_meta.specs.Catalog.{Catalog}
-use Rattle.pkg_meta.specs.declared.meta.Meta.{Meta}
 use Rattle.catalog_doc.specs.Catalogs.{IsCatalog}
 use Rattle.catalog_doc.specs.Spelled.{SpellsCatalog}
 use Rattle.catalog_doc.specs.declared.change.Change.{Change}
-use Rattle.catalog_doc.specs.declared.change.Change.TheVariants as change
 use Rattle.catalog_doc.specs.declared.change.Committed.{Committed}
 use Rattle.catalog_doc.specs.declared.error.CommitErr.{CommitErr}
 use Rattle.catalog_core.specs.Committing.{Commits, MayBeCommitted, WithOrWithout}
-use Rattle.feed_app.specs.Body.{IsPublishBody, IsPublishOf}
 use Rattle.feed_app.specs.Causes.{commit_answer}
 use Rattle.feed_app.specs.Frame.{Meaning, Changes, most_input, nothing}
 use Rattle.feed_app.specs.Openings.{NotOpened}
@@ -23,24 +23,25 @@ use Rattle.feed_app.specs.Outside.{Members, Sight, Shows, held}
 use Rattle.feed_app.specs.Spelled.{ForSpelled, HasCatalog, HoldsCatalog, StaysSpelled}
 use Rattle.feed_app.specs.declared.answer.Answer.{Answer}
 use Rattle.feed_app.specs.declared.answer.Answer.TheVariants.{Done, Refused, FaultInput, TooLong, Memory}
-use Rattle.feed_app.specs.declared.answer.Refusal.TheVariants.{UnsupportedBody}
+use Rattle.feed_app.specs.declared.answer.Refusal.TheVariants.{Body, Meta}
 use Rattle.feed_app.specs.declared.answer.Reply.TheVariants as reply
 
--- the one change of this publish
-abbrev pub changes_of : Meta → List ℕ → List ℕ → List Change
-changes_of m nuspec nupkg = change.Publish m nuspec nupkg ∷ []
+-- the input isn't too long, and is refused as a body of publishes for this reason
+abbrev pub IsRefusedBody : Option (List ℕ) → BodyErr → Type 0
+IsRefusedBody rest e = IfSome rest (λ body. (length body ≤ most_input) × IsRefusedPublish body e)
 
 -- the input was not taken: why, of the bytes that the source had
 abbrev pub NotTaken : Answer → Option (List ℕ) → Type 0
 NotTaken FaultInput rest = ⊤
 NotTaken TooLong rest = IfSome rest (λ body. most_input < length body)
-NotTaken (Refused UnsupportedBody) rest = IfSome rest (λ body. (length body ≤ most_input) × (IsPublishBody body → ⊥))
+NotTaken (Refused (Body at)) rest = IsRefusedBody rest (body.Shape at)
+NotTaken (Refused (Meta place why)) rest = IsRefusedBody rest (body.Meta place why)
 NotTaken Memory rest = ⊤
 NotTaken _ rest = ⊥
 
--- the input is a publish of this metadata, manifest and package
-abbrev pub Brings : Option (List ℕ) → Meta → List ℕ → List ℕ → Type 0
-Brings rest m nuspec nupkg = IfSome rest (λ body. (length body ≤ most_input) × IsPublishOf body m nuspec nupkg)
+-- the input isn't too long, and is a body of these publishes
+abbrev pub Brings : Option (List ℕ) → List Change → Type 0
+Brings rest changes = IfSome rest (λ body. (length body ≤ most_input) × ArePublishes body changes)
 
 -- what is told of a commit
 abbrev pub commit_reply : Result Committed CommitErr → Answer
@@ -61,21 +62,21 @@ Ends answer changes old new told later =
     ⊎ ((now : ℕ) × (result : Result Committed CommitErr) × Tells now told later × (answer ≡ commit_reply result) × CommitsAt changes now old new result)
 
 -- What `publish` answers, and what it leaves: the input was not taken, and neither the catalog's area nor the clock was
--- asked; or it is a publish, and what became of it.
+-- asked; or it is a body of publishes, and what became of them.
 abbrev pub Publishes : {B : Type 0} → Members B → Sight B → Answer → Sight B → Type 0
 Publishes m before answer after =
     (NotTaken answer before.input.told × (after.stores.catalog ≡ before.stores.catalog) × (after.clock ≡ before.clock))
-    ⊎ ((meta : Meta) × (nuspec : List ℕ) × (nupkg : List ℕ) × Brings before.input.told meta nuspec nupkg
-    × Ends answer (changes_of meta nuspec nupkg) (m.seen before.stores.catalog) (m.seen after.stores.catalog) before.clock after.clock)
+    ⊎ ((changes : List Change) × Brings before.input.told changes
+    × Ends answer changes (m.seen before.stores.catalog) (m.seen after.stores.catalog) before.clock after.clock)
 
--- the area spells a catalog, and each publish that the body spells may follow each such catalog at every moment
+-- the area spells a catalog, and the publishes that the body asks for may follow each such catalog at every moment
 abbrev pub CanTake : Area → List ℕ → Type 0
-CanTake area body = HoldsCatalog area × ((base : List ℕ) (cs : Catalog) (m : Meta) (nuspec nupkg : List ℕ) (now : ℕ) → IsCatalog cs → SpellsCatalog area base cs
-    → IsPublishOf body m nuspec nupkg → MayBeCommitted cs (changes_of m nuspec nupkg) now)
+CanTake area body = HoldsCatalog area × ((base : List ℕ) (cs : Catalog) (changes : List Change) (now : ℕ) → IsCatalog cs → SpellsCatalog area base cs
+    → ArePublishes body changes → MayBeCommitted cs changes now)
 
--- a publish that isn't too long, which the catalog can take
+-- a body of publishes that isn't too long, which the catalog can take
 abbrev pub IsTakeable : Area → List ℕ → Type 0
-IsTakeable area body = (length body ≤ most_input) × IsPublishBody body × CanTake area body
+IsTakeable area body = (length body ≤ most_input) × ((changes : List Change) × ArePublishes body changes) × CanTake area body
 
 -- it reads the input, asks the clock and changes the catalog's area
 abbrev pub publish_meaning : {B : Type 0} → Members B → Meaning B

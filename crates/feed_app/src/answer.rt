@@ -1,11 +1,13 @@
 // The answers of all commands, with their texts and statuses.
 ghost use Rattle.std.specs.Prelude.{◌≡◌, IfOk};
 ghost use Rattle.std.specs.Cow.{cow_slice_items};
+ghost use Rattle.admin_wire.specs.Lines.{refusal_text as wire_text};
 ghost use Rattle.feed_app.specs.Answers.{committed_text, counted_text, damaged_text, fault_text, job_text, placed_text};
 
 use crate::area::AreaName;
+use admin_wire::{Line, line_bytes};
 use feed_paths::ServedHive;
-use pkg_meta::{Bytes, NoMemory, Text, Ticks};
+use pkg_meta::{Bytes, MetaErr, NoMemory, Text, Ticks};
 use std::alloc::Global;
 use std::borrow::CowSlice;
 
@@ -48,14 +50,12 @@ pub enum CommitRefusal {
 }
 
 /// Why a command that has a meaning was refused.
-#[derive(Clone, Copy, Debug, PartialEq, Eq)]
+#[derive(Drop)]
 pub enum Refusal {
     /// The catalog's area holds an index already.
     Initialised,
     /// The catalog's area holds no index.
     Uninitialised,
-    /// The body isn't a publish that this program reads.
-    UnsupportedBody,
     /// The catalog is of another base address.
     UnsupportedCatalog,
     /// The path names something that isn't answered yet.
@@ -66,6 +66,10 @@ pub enum Refusal {
     Commit(CommitRefusal),
     /// There is no such document.
     Missing,
+    /// At this byte of the body no record begins.
+    Body(u64),
+    /// The metadata of the record at this place is refused.
+    Meta { place: u64, why: MetaErr },
 }
 
 /// What a command answers, by the kind of its end.
@@ -158,19 +162,30 @@ fn job_line<'a>(
     Ok(CowSlice::Owned(line.into_bytes()))
 }
 
+// The line that publishers are told for this refusal.
+fn wire_line<'a>(
+    alloc: Global,
+    why: admin_wire::Refusal,
+) -> Result<CowSlice<'a, u8, Global>, NoMemory>
+    ensures { IfOk result (λ line. cow_slice_items line ≡ wire_text why) }
+{
+    let line = line_bytes(alloc, &Line::Refused(why))?;
+    Ok(CowSlice::Owned(line.into_vec()))
+}
+
 impl Reply {
     ghost use Rattle.feed_app.specs.Answers.{reply_text};
 
     // A document's bytes, or a line with its line feed.
-    fn text(&self, alloc: Global) -> Result<CowSlice<'_, u8, Global>, NoMemory>
-        ensures { IfOk result (λ text. cow_slice_items text ≡ reply_text self.now) }
+    fn text<'a>(self, alloc: Global) -> Result<CowSlice<'a, u8, Global>, NoMemory>
+        ensures { IfOk result (λ text. cow_slice_items text ≡ reply_text self) }
     {
         match self {
             Reply::Initialised => Ok(CowSlice::Borrowed("initialised\n".as_bytes())),
-            Reply::Committed { number, stamp } => committed_line(alloc, *number, *stamp),
-            Reply::Built(hive, number) => job_line(alloc, "done", *hive, *number),
-            Reply::Idle(hive, number) => job_line(alloc, "idle", *hive, *number),
-            Reply::Document(bytes) => Ok(CowSlice::Borrowed(bytes.as_slice())),
+            Reply::Committed { number, stamp } => committed_line(alloc, number, stamp),
+            Reply::Built(hive, number) => job_line(alloc, "done", hive, number),
+            Reply::Idle(hive, number) => job_line(alloc, "idle", hive, number),
+            Reply::Document(bytes) => Ok(CowSlice::Owned(bytes.into_vec())),
         }
     }
 }
@@ -205,9 +220,13 @@ impl Refusal {
     {
         let line = match self {
             Refusal::Commit(refusal) => return refusal.text(alloc),
+            Refusal::Body(at) => return wire_line(alloc, admin_wire::Refusal::Body(at)),
+            Refusal::Meta { place, why } => {
+                return wire_line(alloc, admin_wire::Refusal::Meta { place, why });
+            }
             Refusal::Initialised => "refused initialised\n",
             Refusal::Uninitialised => "refused uninitialised\n",
-            Refusal::UnsupportedBody | Refusal::UnsupportedCatalog => "refused unsupported\n",
+            Refusal::UnsupportedCatalog => "refused unsupported\n",
             Refusal::UnsupportedPath | Refusal::UnsupportedArea => "refused unsupported\n",
             Refusal::Missing => "refused missing\n",
         };
@@ -219,14 +238,14 @@ impl Answer {
     ghost use Rattle.feed_app.specs.Answers.{text_of, status_of};
 
     /// What is written for it.
-    pub(crate) fn text(&self, alloc: Global) -> Result<CowSlice<'_, u8, Global>, NoMemory>
-        ensures { IfOk result (λ text. cow_slice_items text ≡ text_of self.now) }
+    pub(crate) fn text<'a>(self, alloc: Global) -> Result<CowSlice<'a, u8, Global>, NoMemory>
+        ensures { IfOk result (λ text. cow_slice_items text ≡ text_of self) }
     {
         let line = match self {
             Answer::Done(reply) => return reply.text(alloc),
             Answer::Refused(why) => return why.text(alloc),
-            Answer::Fault(area) => return fault_line(alloc, *area),
-            Answer::Damaged(area, blob) => return damaged_line(alloc, *area, blob.as_str()),
+            Answer::Fault(area) => return fault_line(alloc, area),
+            Answer::Damaged(area, blob) => return damaged_line(alloc, area, blob.as_str()),
             Answer::Usage =>
                 "usage: feed <folder> init|publish|unlist|list|delete|job|cursor|get|verify|script|generate|serve\n",
             Answer::FaultInput => "fault input\n",

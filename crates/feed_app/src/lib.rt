@@ -5,7 +5,6 @@
 mod answer;
 mod area;
 mod base;
-mod body;
 mod causes;
 mod cut;
 mod get;
@@ -14,7 +13,6 @@ mod init;
 mod input;
 mod job;
 mod laws;
-mod meta;
 mod publish;
 mod publish_laws;
 mod run;

@@ -1,38 +1,19 @@
 // The command `publish`.
-ghost use Rattle.std.specs.Prelude.{◌≡◌, ◌≤◌, [], ◌∷◌, length, IfOk};
+ghost use Rattle.std.specs.Prelude.{◌≡◌};
 ghost use Rattle.feed_base.specs.Counts.{HasRisen};
 ghost use Rattle.feed_base.specs.Clock.{Tells};
 ghost use Rattle.feed_app.specs.Frame.{IsDone};
 ghost use Rattle.feed_app.specs.Outside.{input_of, over};
-ghost use Rattle.feed_app.specs.Publishes.{Ends, changes_of, publish_meaning};
+ghost use Rattle.feed_app.specs.Publishes.{Ends, publish_meaning};
 
 use crate::answer::{Answer, Reply};
 use crate::area::AreaName;
-use crate::body::Publish;
 use crate::input::take_publish;
 use blob_store::Blobs;
-use catalog_core::{Change, Changes, Stores, open_catalog};
+use catalog_core::{Changes, Stores, open_catalog};
 use feed_base::{Clock, Source};
-use pkg_meta::{Many, NoMemory, Ticks};
+use pkg_meta::Ticks;
 use std::alloc::Global;
-
-// The one change of a publish.
-fn changes_of(alloc: Global, publish: Publish) -> Result<Changes, NoMemory>
-    ensures { IfOk result (λ changes. changes ≡ changes_of publish.meta publish.nuspec publish.nupkg) }
-{
-    let Publish {
-        meta,
-        nuspec,
-        nupkg,
-    } = publish;
-    let mut changes = Many::new(alloc);
-    changes.push(Change::Publish {
-        meta,
-        nuspec,
-        package: nupkg,
-    })?;
-    Ok(changes)
-}
 
 // The clock's moment.
 fn moment<C: Clock>(clock: &mut C) -> Ticks
@@ -44,25 +25,22 @@ fn moment<C: Clock>(clock: &mut C) -> Ticks
     }
 }
 
-// Opens the catalog that the area holds, and commits the publish.
+// Opens the catalog that the area holds, and commits the changes.
 fn publish_into<B: Blobs, C: Clock>(
     alloc: Global,
     area: B,
-    publish: Publish,
+    changes: &Changes,
     clock: &mut C,
 ) -> (Answer, B)
-    ensures ends { Ends result.0 (changes_of publish.meta publish.nuspec publish.nupkg) (B.seen area) (B.seen result.1) (C.answers clock.old) (C.answers clock.new) }
+    ensures ends { Ends result.0 changes.now (B.seen area) (B.seen result.1) (C.answers clock.old) (C.answers clock.new) }
     ensures cause { result.0 ≡ Answer.Fault AreaName.Catalog → HasRisen (B.seen area).faults (B.seen result.1).faults }
 {
     let mut catalog = match open_catalog(alloc, area, None) {
         Ok(catalog) => catalog,
         Err((error, area)) => return (Answer::of_opening(error), area),
     };
-    let Ok(changes) = changes_of(alloc, publish) else {
-        return (Answer::Memory, catalog.into_area());
-    };
     let now = moment(clock);
-    match catalog.commit(alloc, &changes, now) {
+    match catalog.commit(alloc, changes, now) {
         Ok(done) => {
             let reply = Reply::Committed {
                 number: done.number,
@@ -74,7 +52,7 @@ fn publish_into<B: Blobs, C: Clock>(
     }
 }
 
-/// Takes the input, and commits the publish that it holds onto the catalog.
+/// Takes the input, and commits the publishes that it holds onto the catalog, in one commit.
 pub(crate) fn publish<B: Blobs, I: Source, C: Clock>(
     alloc: Global,
     stores: Stores<B>,
@@ -85,11 +63,11 @@ pub(crate) fn publish<B: Blobs, I: Source, C: Clock>(
         (over result.1 (input_of I.Source input.new) (C.answers clock.new)) }
 {
     let mut stores = stores;
-    let publish = match take_publish(alloc, input) {
-        Ok(publish) => publish,
+    let changes = match take_publish(alloc, input) {
+        Ok(changes) => changes,
         Err(answer) => return (answer, stores),
     };
-    let (answer, catalog) = publish_into(alloc, stores.catalog, publish, clock);
+    let (answer, catalog) = publish_into(alloc, stores.catalog, &changes, clock);
     stores.catalog = catalog;
     (answer, stores)
 }

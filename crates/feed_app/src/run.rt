@@ -41,23 +41,22 @@ fn act<B: Blobs, I: Source, C: Clock>(
 }
 
 // Writes the text of an answer.
-fn write_answer<O: Sink>(alloc: Global, answer: &Answer, output: &mut O) -> Status
-    ensures { Writes answer.now result.number (output_of O.Sink output.old) (output_of O.Sink output.new) }
+fn write_answer<O: Sink>(alloc: Global, answer: Answer, output: &mut O) -> Status
+    ensures { Writes answer result.number (output_of O.Sink output.old) (output_of O.Sink output.new) }
 {
+    let number = answer.status();
     let Ok(text) = answer.text(alloc) else {
         return Status { number: 8 };
     };
     match output.write(text.as_slice()) {
-        Ok(()) => Status {
-            number: answer.status(),
-        },
+        Ok(()) => Status { number },
         Err(_) => Status { number: 5 },
     }
 }
 
 /// Does what the words of a command say, on the stores and streams that are handed in, and writes the text of its
 /// answer. It knows `init` with a base address, which makes the catalog of no commits, `publish`, which commits the
-/// publish that the input holds, `job` with `plain`, `semver2` or `content`, which builds that hive in an area without a
+/// publishes that the input holds, `job` with `plain`, `semver2` or `content`, which builds that hive in an area without a
 /// cursor, and `get` with a path, which writes the bytes of the document that the path names, one of the catalog's or of
 /// one of these hives.
 ///
@@ -75,6 +74,6 @@ pub fn run_command<B: Blobs, I: Source, O: Sink, C: Clock>(
         (outside result.1 input.new output.new clock.new) }
 {
     let (answer, stores) = act(alloc, words, stores, input, clock);
-    let status = write_answer(alloc, &answer, output);
+    let status = write_answer(alloc, answer, output);
     (status, stores)
 }

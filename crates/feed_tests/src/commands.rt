@@ -20,6 +20,10 @@ const LONGER: &str = "30 10 4\n{\"id\":\"Foo\",\"version\":\"1.0.0\"}<package/>a
 
 const BAR: &str = "30 10 3\n{\"id\":\"Bar\",\"version\":\"1.0.0\"}<package/>abc";
 
+// Foo, and Bar with an author and a dependency.
+const TWO: &str =
+    "30 10 3\n{\"id\":\"Foo\",\"version\":\"1.0.0\"}<package/>abc138 10 1\n{\"id\":\"Bar\",\"version\":\"2.1\",\"authors\":\"Ann\",\"dependencyGroups\":[{\"targetFramework\":\"net8.0\",\"dependencies\":[{\"id\":\"Foo\",\"range\":\"1.0\"}]}]}<package/>x";
+
 const FOO_IN_CAPITALS: &str = "30 10 3\n{\"id\":\"FOO\",\"version\":\"1.0.0\"}<package/>abc";
 
 const USAGE: &str =
@@ -35,6 +39,13 @@ const PAGE: &str =
 
 const INDEX: &str =
     "{\"@id\":\"http://f.test/v3/catalog/index.json\",\"commitId\":\"00000000-0000-0000-0000-000000000001\",\"commitTimeStamp\":\"2024-01-01T00:00:00.0000000Z\",\"count\":1,\"items\":[{\"@id\":\"http://f.test/v3/catalog/page0.json\",\"commitId\":\"00000000-0000-0000-0000-000000000001\",\"commitTimeStamp\":\"2024-01-01T00:00:00.0000000Z\",\"count\":1}]}";
+
+// The leaf of Bar, and the page.
+const SECOND_LEAF: &str =
+    "{\"@id\":\"http://f.test/v3/catalog/data/1/1.json\",\"@type\":[\"PackageDetails\"],\"authors\":\"Ann\",\"catalog:commitId\":\"00000000-0000-0000-0000-000000000001\",\"catalog:commitTimeStamp\":\"2024-01-01T00:00:00.0000000Z\",\"created\":\"2024-01-01T00:00:00.0000000Z\",\"dependencyGroups\":[{\"dependencies\":[{\"id\":\"Foo\",\"range\":\"[1.0.0, )\"}],\"targetFramework\":\"net8.0\"}],\"id\":\"Bar\",\"isPrerelease\":false,\"listed\":true,\"origin\":\"1/1\",\"packageHash\":\"pKvURIxJVi2CgRXROh/M6pJ/UrTVRZKX+LQ+QtqJI4vBNibkPcs43bCCSIkn7JBPtCBXRDmD6IWFF51QVRr+Yg==\",\"packageHashAlgorithm\":\"SHA512\",\"packageSize\":1,\"published\":\"2024-01-01T00:00:00.0000000Z\",\"verbatimVersion\":\"2.1\",\"version\":\"2.1.0\"}";
+
+const PAGE_OF_TWO: &str =
+    "{\"@id\":\"http://f.test/v3/catalog/page0.json\",\"commitId\":\"00000000-0000-0000-0000-000000000001\",\"commitTimeStamp\":\"2024-01-01T00:00:00.0000000Z\",\"count\":2,\"items\":[{\"@id\":\"http://f.test/v3/catalog/data/1/0.json\",\"@type\":\"nuget:PackageDetails\",\"commitId\":\"00000000-0000-0000-0000-000000000001\",\"commitTimeStamp\":\"2024-01-01T00:00:00.0000000Z\",\"nuget:id\":\"Foo\",\"nuget:version\":\"1.0.0\"},{\"@id\":\"http://f.test/v3/catalog/data/1/1.json\",\"@type\":\"nuget:PackageDetails\",\"commitId\":\"00000000-0000-0000-0000-000000000001\",\"commitTimeStamp\":\"2024-01-01T00:00:00.0000000Z\",\"nuget:id\":\"Bar\",\"nuget:version\":\"2.1.0\"}],\"parent\":\"http://f.test/v3/catalog/index.json\"}";
 
 // What the first publish leaves, by name.
 const FIRST: [(&str, &str); 5] = [
@@ -208,8 +219,8 @@ fn tells_each_status(rt: HostRuntime) -> Result<(), Fail> {
     Ok(())
 }
 
-// Bodies that are a publish, with the id, the version, the manifest and the package.
-const ACCEPTED: [(&str, &str, &str, &str, &str); 4] = [
+// Bodies that are one publish, with the id, the version, the manifest and the package.
+const ACCEPTED: [(&str, &str, &str, &str, &str); 9] = [
     (
         "30 10 3\n{\"id\":\"Foo\",\"version\":\"1.0.0\"}<package/>abc",
         "Foo",
@@ -238,36 +249,128 @@ const ACCEPTED: [(&str, &str, &str, &str, &str); 4] = [
         "x",
         "y",
     ),
+    (
+        "28 10 3\n{\"id\":\"Foo\",\"version\":\"1.0\"}<package/>abc",
+        "Foo",
+        "1.0.0",
+        "<package/>",
+        "abc",
+    ),
+    (
+        "32 10 3\n{\"id\":\"Foo\",\"version\":\"1.0.0.0\"}<package/>abc",
+        "Foo",
+        "1.0.0",
+        "<package/>",
+        "abc",
+    ),
+    (
+        "32 10 3\n{\"id\":\"Foo\",\"version\":\"1.0.0-a\"}<package/>abc",
+        "Foo",
+        "1.0.0-a",
+        "<package/>",
+        "abc",
+    ),
+    (
+        "31 10 3\n{\"id\":\"Foo\",\"version\":\"01.0.0\"}<package/>abc",
+        "Foo",
+        "1.0.0",
+        "<package/>",
+        "abc",
+    ),
+    (
+        "31 10 3\n{\"id\":\"Foo\", \"version\":\"1.0.0\"}<package/>abc",
+        "Foo",
+        "1.0.0",
+        "<package/>",
+        "abc",
+    ),
 ];
 
-// Bodies that are none.
-const NO_PUBLISH: [&str; 26] = [
-    "",
-    "\n",
-    "30 10 3",
-    "30 10 3{\"id\":\"Foo\",\"version\":\"1.0.0\"}<package/>abc",
-    "30 10 3\n{\"id\":\"Foo\",\"version\":\"1.0.0\"}<package/>ab",
-    "30 10 3\n{\"id\":\"Foo\",\"version\":\"1.0.0\"}<package/>abcd",
-    "30 10\n{\"id\":\"Foo\",\"version\":\"1.0.0\"}<package/>",
-    "30 10 3 0\n{\"id\":\"Foo\",\"version\":\"1.0.0\"}<package/>abc",
-    "30  10 3\n{\"id\":\"Foo\",\"version\":\"1.0.0\"}<package/>abc",
-    "30 10 3 \n{\"id\":\"Foo\",\"version\":\"1.0.0\"}<package/>abc",
-    "30 10 3\r\n{\"id\":\"Foo\",\"version\":\"1.0.0\"}<package/>abc",
-    "030 10 3\n{\"id\":\"Foo\",\"version\":\"1.0.0\"}<package/>abc",
-    "000000030 10 3\n{\"id\":\"Foo\",\"version\":\"1.0.0\"}<package/>abc",
-    "34 2 3\n{\"id\":\"Foo-B_r\",\"version\":\"10.2.0\"}\n\n\"}\n",
-    "30 10 03\n{\"id\":\"Foo\",\"version\":\"1.0.0\"}<package/>abc",
-    "+30 10 3\n{\"id\":\"Foo\",\"version\":\"1.0.0\"}<package/>abc",
-    "30 10 100000000\n{\"id\":\"Foo\",\"version\":\"1.0.0\"}<package/>abc",
-    "28 10 3\n{\"id\":\"Foo\",\"version\":\"1.0\"}<package/>abc",
-    "32 10 3\n{\"id\":\"Foo\",\"version\":\"1.0.0.0\"}<package/>abc",
-    "32 10 3\n{\"id\":\"Foo\",\"version\":\"1.0.0-a\"}<package/>abc",
-    "31 10 3\n{\"id\":\"Foo\",\"version\":\"01.0.0\"}<package/>abc",
-    "39 10 3\n{\"id\":\"Foo\",\"version\":\"2147483648.0.0\"}<package/>abc",
-    "33 10 3\n{\"id\":\"Fo..Ba\",\"version\":\"1.0.0\"}<package/>abc",
-    "27 10 3\n{\"id\":\"\",\"version\":\"1.0.0\"}<package/>abc",
-    "31 10 3\n{\"id\":\"Foo\", \"version\":\"1.0.0\"}<package/>abc",
-    "30 10 3\n{\"Id\":\"Foo\",\"version\":\"1.0.0\"}<package/>abc",
+// Bodies that are refused, with their lines.
+const REFUSED_BODIES: [(&str, &str); 23] = [
+    ("", "refused empty\n"),
+    ("\n", "refused body 0\n"),
+    ("30 10 3", "refused body 0\n"),
+    (
+        "30 10 3{\"id\":\"Foo\",\"version\":\"1.0.0\"}<package/>abc",
+        "refused body 0\n",
+    ),
+    (
+        "30 10 3\n{\"id\":\"Foo\",\"version\":\"1.0.0\"}<package/>ab",
+        "refused body 0\n",
+    ),
+    (
+        "30 10 3\n{\"id\":\"Foo\",\"version\":\"1.0.0\"}<package/>abcd",
+        "refused body 51\n",
+    ),
+    (
+        "30 10\n{\"id\":\"Foo\",\"version\":\"1.0.0\"}<package/>",
+        "refused body 0\n",
+    ),
+    (
+        "30 10 3 0\n{\"id\":\"Foo\",\"version\":\"1.0.0\"}<package/>abc",
+        "refused body 0\n",
+    ),
+    (
+        "30  10 3\n{\"id\":\"Foo\",\"version\":\"1.0.0\"}<package/>abc",
+        "refused body 0\n",
+    ),
+    (
+        "30 10 3 \n{\"id\":\"Foo\",\"version\":\"1.0.0\"}<package/>abc",
+        "refused body 0\n",
+    ),
+    (
+        "30 10 3\r\n{\"id\":\"Foo\",\"version\":\"1.0.0\"}<package/>abc",
+        "refused body 0\n",
+    ),
+    (
+        "030 10 3\n{\"id\":\"Foo\",\"version\":\"1.0.0\"}<package/>abc",
+        "refused body 0\n",
+    ),
+    (
+        "000000030 10 3\n{\"id\":\"Foo\",\"version\":\"1.0.0\"}<package/>abc",
+        "refused body 0\n",
+    ),
+    (
+        "34 2 3\n{\"id\":\"Foo-B_r\",\"version\":\"10.2.0\"}\n\n\"}\n",
+        "refused meta 0 json\n",
+    ),
+    (
+        "30 10 03\n{\"id\":\"Foo\",\"version\":\"1.0.0\"}<package/>abc",
+        "refused body 0\n",
+    ),
+    (
+        "+30 10 3\n{\"id\":\"Foo\",\"version\":\"1.0.0\"}<package/>abc",
+        "refused body 0\n",
+    ),
+    (
+        "30 10 100000000\n{\"id\":\"Foo\",\"version\":\"1.0.0\"}<package/>abc",
+        "refused body 0\n",
+    ),
+    (
+        "39 10 3\n{\"id\":\"Foo\",\"version\":\"2147483648.0.0\"}<package/>abc",
+        "refused meta 0 version\n",
+    ),
+    (
+        "33 10 3\n{\"id\":\"Fo..Ba\",\"version\":\"1.0.0\"}<package/>abc",
+        "refused meta 0 id id\n",
+    ),
+    (
+        "27 10 3\n{\"id\":\"\",\"version\":\"1.0.0\"}<package/>abc",
+        "refused meta 0 id id\n",
+    ),
+    (
+        "30 10 3\n{\"Id\":\"Foo\",\"version\":\"1.0.0\"}<package/>abc",
+        "refused meta 0 field id\n",
+    ),
+    (
+        "30 10 3\n{\"id\":\"Foo\",\"version\":\"1.0.0\"}<package/>abc1 0 0\n{",
+        "refused meta 1 json\n",
+    ),
+    (
+        "30 10 3\n{\"id\":\"Foo\",\"version\":\"1.0.0\"}<package/>abc30 10 3\n{\"id\":\"Foo\",\"version\":\"1.0.0\"}<package/>abc",
+        "refused twice 1\n",
+    ),
 ];
 
 // The bytes of the blob of this name.
@@ -310,11 +413,33 @@ fn a_publish_is_read_whole(rt: HostRuntime) -> Result<(), Fail> {
             "{body}"
         );
     }
-    for body in NO_PUBLISH {
+    for (body, line) in REFUSED_BODIES {
         let stores = behind(alloc, 1, &[], &[])?;
         let (told, output, _) = run(alloc, stores, &["publish"], with_body(body))?;
         assert_eq!(rt; told, 3, "{body}");
-        assert_eq!(rt; output.bytes(), REFUSED.as_bytes(), "{body}");
+        assert_eq!(rt; output.bytes(), line.as_bytes(), "{body}");
+    }
+    Ok(())
+}
+
+// Two records in one body: one commit of two items.
+const TWO_ITEMS: [Step<'_>; 5] = [
+    (&["publish"], TWO, 0, DONE),
+    (&["get", "/v3/catalog/page0.json"], "", 0, PAGE_OF_TWO),
+    (&["get", "/v3/catalog/data/1/0.json"], "", 0, LEAF),
+    (&["get", "/v3/catalog/data/1/1.json"], "", 0, SECOND_LEAF),
+    (&["publish"], TWO, 3, "refused exists 0 1\n"),
+];
+
+#[test]
+fn a_body_of_two_is_one_commit(rt: HostRuntime) -> Result<(), Fail> {
+    let alloc = rt.alloc();
+    let mut stores = behind(alloc, 1, &[], &[])?;
+    for (place, (words, body, status, text)) in TWO_ITEMS.iter().enumerate() {
+        let (told, output, left) = run(alloc, stores, words, with_body(body))?;
+        assert_eq!(rt; told, *status, "step {place}");
+        assert_eq!(rt; output.bytes(), text.as_bytes(), "step {place}");
+        stores = left;
     }
     Ok(())
 }
@@ -377,8 +502,8 @@ const SESSION: [Step<'_>; 27] = [
     (&["publish"], FOO, 0, DONE),
     (&["publish"], FOO, 3, "refused exists 0 1\n"),
     (&["publish"], FOO_IN_CAPITALS, 3, "refused exists 0 1\n"),
-    (&["publish"], SHORT, 3, REFUSED),
-    (&["publish"], LONGER, 3, REFUSED),
+    (&["publish"], SHORT, 3, "refused exists 0 1\n"),
+    (&["publish"], LONGER, 3, "refused body 0\n"),
     (&["get", "/v3/flat/foo/index.json"], "", 3, MISSING),
     (&["job", "content"], "", 0, "done content 1\n"),
     (&["job", "content"], "", 3, REFUSED),

@@ -1,6 +1,5 @@
 use Rattle.std.proofs.Common.{inr, rules}
 use Rattle.feed_app.specs.Outside.{input_of, over}
-use Rattle.feed_app.specs.Publishes.{changes_of}
 use Rattle.feed_app.proofs.Publishes.{end_explains}
 use Rattle.feed_app.proofs.publish.publish.Goals as goal
 
@@ -10,6 +9,6 @@ returns g c = record {
   explains =
       end_explains g.B.Blobs (over c.args.stores (input_of g.I.Source c.args.input.now) (g.C.Clock.answers c.args.clock.now))
       (over (record c.args.stores { catalog = c.publish_into-answer.result.1 }) (input_of g.I.Source c.take_publish.new.input) (g.C.Clock.answers c.publish_into-answer.new.clock))
-      (changes_of c.in-Ok.publish.meta c.in-Ok.publish.nuspec c.in-Ok.publish.nupkg) _ _ c.publish_into-answer.result.0 c.publish_into-answer.ensures.cause c.publish_into-answer.ensures.ends;
-  acts = inr (c.in-Ok.publish.meta, c.in-Ok.publish.nuspec, c.in-Ok.publish.nupkg, c.in-Ok.ensures.taken, c.publish_into-answer.ensures.ends);
+      c.in-Ok.changes _ _ c.publish_into-answer.result.0 c.publish_into-answer.ensures.cause c.publish_into-answer.ensures.ends;
+  acts = inr (c.in-Ok.changes, c.in-Ok.ensures.taken, c.publish_into-answer.ensures.ends);
 }
