@@ -1,28 +1,23 @@
 #!/bin/sh
-# Publishes one package into a feed in a folder, and makes the feed where there is none.
+# Publishes packages as NuGet's tools make them into a feed in a folder, and makes the feed where there is none.
 #
-# Use: sh publish.sh FOLDER ID VERSION NUSPEC NUPKG
-# FOLDER is the feed's folder, VERSION three numbers joined by dots, NUSPEC and NUPKG the files of the package's manifest
-# and of the package. The program is proved and built first where it isn't there. A feed that is made here has the base
-# address BASE, http://localhost.feed/ unless it is set.
+# Use: sh publish.sh FOLDER PACKAGE.nupkg..
+# Use: sh publish.sh FOLDER --id ID --version VERSION --nuspec FILE PACKAGE.nupkg
+# FOLDER is the feed's folder. The first form takes the metadata out of each package's manifest (see packages.py); where one
+# isn't a package, nothing is published. The second takes the id, the version and the manifest from the words. The program
+# is proved and built first where it isn't there. A feed that is made here has the base address BASE,
+# http://localhost.feed/ unless it is set.
 #
-# What the program reads on standard input is a record: the lengths of the metadata, the manifest and the package, a line
-# feed, and then their bytes. It answers with one line, and its status says whether that is a refusal.
+# The program answers each commit, of up to 64 packages, with a line; its status says whether that is a refusal.
 
-if [ "$#" -ne 5 ]; then
+if [ "$#" -lt 2 ]; then
   sed -n 's/^# Use: /use: /p' "$0" >&2
   exit 2
 fi
 folder=$1
-meta='{"id":"'$2'","version":"'$3'"}'
-nuspec=$4
-nupkg=$5
+shift
 top=$(dirname "$0")
 feed=$top/crates/feed/out/feed
-
-length() {
-  wc -c <"$1" | tr -d ' '
-}
 
 # The crates of this repository that the program stands on, by crates.txt, lowest first.
 crates() {
@@ -67,10 +62,12 @@ build() {
   (cd "$top/crates/feed" && rt run >/dev/null 2>&1 </dev/null)
 }
 
-if [ ! -r "$nuspec" ] || [ ! -r "$nupkg" ]; then
-  echo "publish.sh: no file to read at $nuspec or $nupkg" >&2
-  exit 2
+if ! command -v python3 >/dev/null 2>&1; then
+  echo "publish.sh: python3 is needed to read packages" >&2
+  exit 1
 fi
+# What the words name is read before the program is built for it.
+python3 "$top/packages.py" --check "$@" || exit
 if [ ! -x "$feed" ]; then
   build
 fi
@@ -81,7 +78,4 @@ fi
 if [ ! -e "$folder/catalog/index.json" ]; then
   "$feed" "$folder" init "${BASE:-http://localhost.feed/}" </dev/null || exit
 fi
-{
-  printf '%d %d %d\n%s' "${#meta}" "$(length "$nuspec")" "$(length "$nupkg")" "$meta"
-  cat "$nuspec" "$nupkg"
-} | "$feed" "$folder" publish
+exec python3 "$top/packages.py" "$feed" "$folder" "$@"
