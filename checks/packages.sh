@@ -1,7 +1,8 @@
 #!/bin/sh
 # Package files as NuGet's tools make them: the tests of packages.py, and then publishes of real packages by the built program,
 # the example and those of Debian (nupkg-newtonsoft.json.6.0.8 and nupkg-nunit.2.6.4) where they are installed. Of each, the
-# catalog's leaf is compared with the file. It is skipped where python3 or the program is missing.
+# catalog's leaf is compared with the file. Then the registration index that docs/FORMATS.md shows is compared with the
+# program's. It is skipped where python3 or the program is missing.
 #
 # Use: sh checks/packages.sh [PROGRAM [FOLDER]]
 # PROGRAM is crates/feed/out/feed unless it is given, FOLDER, where Debian's packages stand, /usr/share/nupkg. Each part ends in
@@ -68,6 +69,20 @@ for place, path in enumerate(paths):
     check(f"{path}: the tags", leaf.get("tags", []) == given.get("tags", "").split())
 ran = run(sys.executable, here + "/../packages.py", feed, store, *paths)
 check(f"the same again: {ran.stdout}", (ran.returncode, ran.stdout) == (3, b"refused exists 0 1\n"))
+
+# The shown index: of the metadata in the first block behind the heading that has one, with the stamp of the commit.
+with open(here + "/../docs/FORMATS.md", encoding="utf-8") as file:
+    section = file.read().partition("\n## Registration documents\n")[2].partition("\n## ")[0]
+metadata, shown = (block.strip("\n").replace("\n", "").encode() for block in section.split("```")[1::2])
+other = store + "2"
+run(feed, other, "init", "http://f.test/")
+body = b"%d 10 3\n%s<package/>abc" % (len(metadata), metadata)
+ran = subprocess.run([feed, other, "publish"], input=body, capture_output=True)
+stamp = ran.stdout.split()[-1]
+check(f"the publish of the shown metadata: {ran.stdout}", ran.returncode == 0)
+check("its job", run(feed, other, "job", "plain").stdout == b"done plain 1\n")
+want = shown.replace(b"2024-01-01T00:00:00.0000000Z", stamp)
+check("the shown index", run(feed, other, "get", "/v3/registration/foo/index.json").stdout == want)
 print(f"{passed} passed, {failed} failed")
 sys.exit(failed > 0)
 END
