@@ -34,7 +34,7 @@ same_line p t q u id version name text l k e =
       rests = lines.1;
     }
 
-asked_unrefused : (kind : NameKind) (place : ℕ) (id version : List ℕ) (c : Change) (e : BodyErr) → IsAsked kind id version c → IsRefusedPair place id version e → ⊥
+pub asked_unrefused : (kind : NameKind) (place : ℕ) (id version : List ℕ) (c : Change) (e : BodyErr) → IsAsked kind id version c → IsRefusedPair place id version e → ⊥
 asked_unrefused kind place id version c e a (bad_id is none) = none (subst IsShortId a.id_text (a.the_id.spelled, a.the_id.short))
 asked_unrefused kind place id version c e a (bad_version is short none) = none a.the_version a.spelled
 

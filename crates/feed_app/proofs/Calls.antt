@@ -3,7 +3,7 @@ use Rattle.std.proofs.Common.{◌≡◌, ◌⊎◌, ◌<◌, ◌≤◌, ◌≢�
 use Rattle.feed_base.proofs.Options.{at_some}
 use Rattle.feed_app.specs.Accepts.{Accepts}
 use Rattle.feed_app.specs.Answers.{status_of}
-use Rattle.feed_app.specs.Commands.{Command, Init, Get, Publish, Job, command_of}
+use Rattle.feed_app.specs.Commands.{Command, Init, Get, Publish, Names, Job, command_of}
 use Rattle.feed_app.specs.Does.{Does, meaning, reach_of}
 use Rattle.feed_app.specs.Frame.{Explains, IsDone, IsLost, Keeps, Meaning, Touches, most_input, touch_of}
 use Rattle.feed_app.specs.Outside.{AreaRose, Bounds, Members, Outside, Rose, Shows, Sight, Stream, area_of, input_of, output_of, sight}
@@ -12,6 +12,7 @@ use Rattle.feed_app.specs.Writes.{Writes}
 use Rattle.feed_app.specs.declared.answer.Answer.{Answer}
 use Rattle.feed_app.specs.declared.answer.Answer.TheVariants.{Done, Usage, Refused, Fault, FaultInput, Damaged, TooLong, Memory}
 use Rattle.feed_app.specs.declared.area.AreaName.{AreaName}
+use Rattle.feed_app.proofs.CommittedNames.{names_accepts}
 use Rattle.feed_app.proofs.Gets.{get_accepts}
 use Rattle.feed_app.proofs.Inits.{init_accepts}
 use Rattle.feed_app.proofs.Jobs.{job_accepts}
@@ -21,6 +22,7 @@ use Rattle.feed_app.proofs.Publishes.{publish_accepts}
 accepts : {B : Type 0} (m : Members B) (command : Command) → Accepts (meaning m command)
 accepts m (Init base) = init_accepts m base
 accepts m Publish = publish_accepts m
+accepts m (Names kind pairs) = names_accepts m kind pairs
 accepts m (Job hive) = job_accepts m hive
 accepts m (Get path) = get_accepts m path
 

@@ -19,7 +19,7 @@ use Rattle.feed_app.specs.Spelled.{HasCatalog, HoldsCatalog, Of}
 use Rattle.feed_app.specs.declared.answer.Answer.{Answer}
 use Rattle.feed_app.specs.declared.answer.Answer.TheVariants.{Done, Usage, Refused, Fault, FaultInput, Damaged, TooLong, Memory}
 use Rattle.feed_app.specs.declared.answer.Refusal.{Refusal}
-use Rattle.feed_app.specs.declared.answer.Refusal.TheVariants.{Initialised, Uninitialised, UnsupportedCatalog, UnsupportedPath, UnsupportedArea, Commit, Missing, Body, Meta}
+use Rattle.feed_app.specs.declared.answer.Refusal.TheVariants.{Initialised, Uninitialised, UnsupportedCatalog, UnsupportedPath, UnsupportedArea, Commit, Missing, Body, Meta, Id, Version}
 use Rattle.feed_app.specs.declared.answer.Reply.{Reply}
 use Rattle.feed_app.specs.declared.answer.Reply.TheVariants as reply
 use Rattle.feed_app.specs.declared.area.AreaName.{AreaName}
@@ -123,6 +123,8 @@ module _ (bytes : List ℕ) (document : Option (List ℕ)) (has : document ≡ S
   refusal_held Missing is = some_none document bytes has is
   refusal_held (Body at) is = is
   refusal_held (Meta place why) is = is
+  refusal_held (Id place) is = is
+  refusal_held (Version place) is = is
   refusal_held Initialised is = is
   refusal_held Uninitialised is = is
   refusal_held UnsupportedCatalog is = is
@@ -157,6 +159,8 @@ module _ (told : Option Area) (blobs : Area) (bytes : List ℕ) (there : told �
   hive_refusal Missing is = some_none (get blobs (stored_name rest)) bytes holds (at_some told (λ a. get a (stored_name rest) ≡ None) blobs there is)
   hive_refusal (Body at) is = is
   hive_refusal (Meta place why) is = is
+  hive_refusal (Id place) is = is
+  hive_refusal (Version place) is = is
   hive_refusal Initialised is = is
   hive_refusal Uninitialised is = is
   hive_refusal UnsupportedCatalog is = is

@@ -15,7 +15,7 @@ use Rattle.feed_app.specs.Outside.{AreaRose, Members, Shows, Sight, held}
 use Rattle.feed_app.specs.declared.answer.Answer.{Answer}
 use Rattle.feed_app.specs.declared.answer.Answer.TheVariants.{Done, Usage, Refused, Fault, FaultInput, Damaged, TooLong, Memory}
 use Rattle.feed_app.specs.declared.answer.Refusal.{Refusal}
-use Rattle.feed_app.specs.declared.answer.Refusal.TheVariants.{Initialised, Uninitialised, UnsupportedCatalog, UnsupportedPath, UnsupportedArea, Commit, Missing, Body, Meta}
+use Rattle.feed_app.specs.declared.answer.Refusal.TheVariants.{Initialised, Uninitialised, UnsupportedCatalog, UnsupportedPath, UnsupportedArea, Commit, Missing, Body, Meta, Id, Version}
 use Rattle.feed_app.specs.declared.area.AreaName.TheVariants as area
 use Rattle.feed_app.proofs.Absent.{not_both}
 
@@ -45,6 +45,8 @@ module _ {B : Type 0} (m : Members B) (base : List ℕ) (before after : Sight B)
   refused Missing ready is = is
   refused (Body at) ready is = is
   refused (Meta place why) ready is = is
+  refused (Id place) ready is = is
+  refused (Version place) ready is = is
 
 made_or_not : (base : List ℕ) (m : Area) (new : Option Area) → ((now : Area) × (new ≡ Some now) × IsFirstArea base m now) → (new ≡ Some m) ⊎ IsMade base m new
 made_or_not base m new (now, is, inl same) = inl (is ∙ ap Some same)

@@ -23,7 +23,7 @@ use Rattle.feed_app.specs.Spelled.{ForEach, HasCatalog, HoldsCatalog, Of}
 use Rattle.feed_app.specs.declared.answer.Answer.{Answer}
 use Rattle.feed_app.specs.declared.answer.Answer.TheVariants.{Done, Usage, Refused, Fault, FaultInput, Damaged, TooLong, Memory}
 use Rattle.feed_app.specs.declared.answer.Refusal.{Refusal}
-use Rattle.feed_app.specs.declared.answer.Refusal.TheVariants.{Initialised, Uninitialised, UnsupportedCatalog, UnsupportedPath, UnsupportedArea, Commit, Missing, Body, Meta}
+use Rattle.feed_app.specs.declared.answer.Refusal.TheVariants.{Initialised, Uninitialised, UnsupportedCatalog, UnsupportedPath, UnsupportedArea, Commit, Missing, Body, Meta, Id, Version}
 use Rattle.feed_app.specs.declared.answer.Reply.{Reply}
 use Rattle.feed_app.specs.declared.answer.Reply.TheVariants as reply
 use Rattle.feed_app.specs.declared.area.AreaName.{AreaName}
@@ -98,6 +98,8 @@ module _ (keeps : KeepsDetails) (makes : Makes) (hive : ServedHive) (told : Seen
   not_stopped Missing is = is
   not_stopped (Body at) is = is
   not_stopped (Meta place why) is = is
+  not_stopped (Id place) is = is
+  not_stopped (Version place) is = is
 
   undamaged : (name : AreaName) (blob : List ℕ) → Builds keeps makes hive (Damaged name blob) (IsUnread told.held) (HasCatalog told) old new → ⊥
   undamaged area.Catalog blob is = is.1 base cs has
@@ -125,6 +127,8 @@ module _ (keeps : KeepsDetails) (makes : Makes) (hive : ServedHive) (Is Are : Of
   refused_as Missing is = is
   refused_as (Body at) is = is
   refused_as (Meta place why) is = is
+  refused_as (Id place) is = is
+  refused_as (Version place) is = is
 
   pub builds_as : (answer : Answer) → Builds keeps makes hive answer Damages Is old new → Builds keeps makes hive answer Lost Are old new
   builds_as (Done given) is = done_as given is

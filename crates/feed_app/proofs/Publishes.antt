@@ -1,6 +1,5 @@
 -- What follows for `publish`.
-use Rattle.std.proofs.Common.{◌≡◌, ◌≤◌, ◌∙◌, ℕ, List, length, Option, Some, inl, inr, refl, sym, subst}
-use Rattle.std.specs.Prelude.{Result, Ok, Err}
+use Rattle.std.proofs.Common.{◌≡◌, ◌≤◌, ℕ, List, length, Some, inl, inr, refl}
 use Rattle.feed_base.proofs.Options.{at_some}
 use Rattle.admin_wire.specs.Bodies.{ArePublishes, IsRecordOf, IsRefusedPublish, IsRefusedRecord}
 use Rattle.admin_wire.specs.declared.error.BodyErr.{BodyErr}
@@ -9,23 +8,18 @@ use Rattle.admin_wire.proofs.OneRecord.{records_determined}
 use Rattle.admin_wire.proofs.OneStop.{read_or_refused}
 use Rattle.blob_store.specs.Area.{Area}
 use Rattle.catalog_doc.specs.declared.change.Change.{Change}
-use Rattle.catalog_doc.specs.declared.change.Committed.{Committed}
-use Rattle.catalog_doc.specs.declared.error.CommitErr.{CommitErr}
-use Rattle.catalog_doc.specs.declared.error.CommitErr.TheVariants as error
 use Rattle.catalog_core.specs.Committing.{MayBeCommitted}
 use Rattle.feed_app.specs.Accepts.{Accepts}
 use Rattle.feed_app.specs.Frame.{Explains, most_input}
-use Rattle.feed_app.specs.Outside.{AreaRose, Members, Rose, Sight, held}
-use Rattle.feed_app.specs.Publishes.{Brings, commit_reply, CommitsAt, Ends, IsRefusedBody, IsTakeable, NotTaken, Publishes, publish_meaning}
+use Rattle.feed_app.specs.Outside.{Members, Rose, Sight, held}
+use Rattle.feed_app.specs.Publishes.{Brings, IsRefusedBody, IsTakeable, NotTaken, Publishes, publish_meaning}
 use Rattle.feed_app.specs.Spelled.{HasCatalog, HoldsCatalog}
 use Rattle.feed_app.specs.declared.answer.Answer.{Answer}
 use Rattle.feed_app.specs.declared.answer.Answer.TheVariants.{Done, Usage, Refused, Fault, FaultInput, Damaged, TooLong, Memory}
 use Rattle.feed_app.specs.declared.answer.Refusal.{Refusal}
-use Rattle.feed_app.specs.declared.answer.Refusal.TheVariants.{Initialised, Uninitialised, UnsupportedCatalog, UnsupportedPath, UnsupportedArea, Commit, Missing, Body, Meta}
+use Rattle.feed_app.specs.declared.answer.Refusal.TheVariants.{Initialised, Uninitialised, UnsupportedCatalog, UnsupportedPath, UnsupportedArea, Commit, Missing, Body, Meta, Id, Version}
 use Rattle.feed_app.specs.declared.area.AreaName.{AreaName}
-use Rattle.feed_app.specs.declared.area.AreaName.TheVariants as area
-use Rattle.feed_app.proofs.Closed.{closed_explains}
-use Rattle.feed_app.proofs.Endings.{not_damaged, not_refused}
+use Rattle.feed_app.proofs.Ended.{end_sound, end_taken}
 
 module _ {B : Type 0} (m : Members B) (before after : Sight B) where
   abbrev Explained : Answer → Type 0
@@ -41,31 +35,6 @@ module _ {B : Type 0} (m : Members B) (before after : Sight B) where
   untaken_explains Usage rose is = absurd is
   untaken_explains (Fault name) rose is = absurd is
   untaken_explains (Damaged name blob) rose is = absurd is
-
-  commit_explains : (changes : List Change) (now : ℕ) (r : Result Committed CommitErr)
-      → (commit_reply r ≡ Fault area.Catalog → AreaRose m before.stores.catalog after.stores.catalog) → CommitsAt changes now (m.seen before.stores.catalog) (m.seen after.stores.catalog) r → Explained (commit_reply r)
-  commit_explains changes now (Ok done) rose is = tt
-  commit_explains changes now (Err error.Fault) rose is = (tt, rose refl)
-  commit_explains changes now (Err (error.Damaged name)) rose is = (tt, λ base cs has. is.commits base cs has)
-  commit_explains changes now (Err error.Memory) rose is = tt
-  commit_explains changes now (Err error.Empty) rose is = tt
-  commit_explains changes now (Err (error.TooMany count)) rose is = tt
-  commit_explains changes now (Err (error.Twice place)) rose is = tt
-  commit_explains changes now (Err (error.Exists place number)) rose is = tt
-  commit_explains changes now (Err (error.Absent place number)) rose is = tt
-  commit_explains changes now (Err (error.Already place number)) rose is = tt
-  commit_explains changes now (Err (error.IdFull place)) rose is = tt
-  commit_explains changes now (Err (error.Full items)) rose is = tt
-  commit_explains changes now (Err error.Unsupported) rose is = tt
-  commit_explains changes now (Err error.ClockEnd) rose is = tt
-
-  -- a publish that was taken
-  pub end_explains : (changes : List Change) (told later : Option (List ℕ)) (answer : Answer) → (answer ≡ Fault area.Catalog → AreaRose m before.stores.catalog after.stores.catalog)
-      → Ends answer changes (m.seen before.stores.catalog) (m.seen after.stores.catalog) told later → Explained answer
-  end_explains changes told later answer rose (inl (inl closed, spelled, unasked)) = closed_explains m (publish_meaning m).reach before after answer tt rose closed
-  end_explains changes told later answer rose (inl (inr memory, spelled, unasked)) = subst Explained (sym memory) tt
-  end_explains changes told later answer rose (inr (now, r, tells, is, commits)) =
-      subst Explained (sym is) (commit_explains changes now r (λ fault. rose (is ∙ fault)) commits)
 
   -- the area can take what the input has
   module _ (bytes : List ℕ) (area : Area) (is_body : before.input.told ≡ Some bytes) (there : held m before.stores.catalog ≡ Some area) (can : IsTakeable area bytes) where
@@ -93,20 +62,17 @@ module _ {B : Type 0} (m : Members B) (before after : Sight B) where
     input_taken UnsupportedArea is = is
     input_taken (Commit refusal) is = is
     input_taken Missing is = is
+    input_taken (Id place) is = is
+    input_taken (Version place) is = is
 
     refused : (why : Refusal) → Publishes m before (Refused why) after → ⊥
     refused why (inl (not_taken, same, unasked)) = input_taken why not_taken
-    refused why (inr (changes, brings, inl (inl closed, spelled, unasked))) = closed.of_store its.0 its.1 its_catalog
-    refused why (inr (changes, brings, inl (inr memory, spelled, unasked))) = cc memory
-    refused why (inr (changes, brings, inr (now, r, tells, is, commits))) =
-        not_refused its.1 changes now (HasCatalog (m.seen after.stores.catalog) its.0) why r (its_taken changes now brings) (sym is) (commits.commits its.0 its.1 its_catalog)
+    refused why (inr (changes, brings, ends)) =
+        end_taken m before after its.0 its.1 changes before.clock after.clock its_catalog (λ now. its_taken changes now brings) why ends
 
     undamaged : (name : AreaName) (blob : List ℕ) → Publishes m before (Damaged name blob) after → ⊥
     undamaged name blob (inl (not_taken, same, unasked)) = not_taken
-    undamaged name blob (inr (changes, brings, inl (inl closed, spelled, unasked))) = closed.of_store its.0 its.1 its_catalog
-    undamaged name blob (inr (changes, brings, inl (inr memory, spelled, unasked))) = cc memory
-    undamaged name blob (inr (changes, brings, inr (now, r, tells, is, commits))) =
-        not_damaged its.1 changes now (HasCatalog (m.seen after.stores.catalog) its.0) name blob r (sym is) (commits.commits its.0 its.1 its_catalog)
+    undamaged name blob (inr (changes, brings, ends)) = end_sound m before after its.0 its.1 changes before.clock after.clock its_catalog name blob ends
 
 pub publish_accepts : {B : Type 0} (m : Members B) → Accepts (publish_meaning m)
 publish_accepts m = record {

@@ -7,7 +7,7 @@ use Rattle.std.proofs.lemmas.Bool.{and_from, and_parts, le-leb, leb-true}
 use Rattle.std.proofs.lemmas.Slice.Eq.{bytes_eq-Decides}
 use Rattle.feed_app.specs.Bases.{IsBase, IsName, address, is_address, is_base, is_base_with, is_name}
 use Rattle.feed_app.proofs.Cuts.{first_place}
-use Rattle.feed_app.proofs.Names.{free_name}
+use Rattle.feed_app.proofs.HostNames.{free_name}
 
 name_true : (name : List ℕ) → IsName name → is_name name ≡ true
 name_true name is = and_from _ _ (le-leb 1 (length name) is.some) (and_from _ _ (le-leb (length name) 60 is.few) is.letters)

@@ -9,7 +9,7 @@ use Rattle.feed_app.specs.declared.answer.Answer.TheVariants.{Done, Usage, Refus
 use Rattle.feed_app.specs.declared.answer.CommitRefusal.{CommitRefusal}
 use Rattle.feed_app.specs.declared.answer.CommitRefusal.TheVariants.{Exists, Absent, Already, Twice, IdFull, Full, ClockEnd, Empty, TooMany}
 use Rattle.feed_app.specs.declared.answer.Refusal.{Refusal}
-use Rattle.feed_app.specs.declared.answer.Refusal.TheVariants.{Initialised, Uninitialised, UnsupportedCatalog, UnsupportedPath, UnsupportedArea, Commit, Missing, Body, Meta}
+use Rattle.feed_app.specs.declared.answer.Refusal.TheVariants.{Initialised, Uninitialised, UnsupportedCatalog, UnsupportedPath, UnsupportedArea, Commit, Missing, Body, Meta, Id, Version}
 use Rattle.feed_app.specs.declared.answer.Reply.{Reply}
 use Rattle.feed_app.specs.declared.answer.Reply.TheVariants as reply
 use Rattle.feed_app.specs.declared.area.AreaName.{AreaName}
@@ -70,6 +70,8 @@ refusal_text (Commit refusal) = commit_refusal_text refusal
 refusal_text Missing = codes "refused missing\n"
 refusal_text (Body at) = number_text (codes "refused body") at
 refusal_text (Meta place why) = refused_meta_text place why
+refusal_text (Id place) = number_text (codes "refused id") place
+refusal_text (Version place) = number_text (codes "refused version") place
 
 -- the line for a fault of an area's store
 abbrev pub fault_text : AreaName → List ℕ

@@ -1,24 +1,48 @@
 -- What a list of words means.
-use Rattle.std.specs.Prelude.{ℕ, List, [], ◌∷◌, codes, map, Option, Some, None, option_map, String, string_bytes, if◌then◌else◌, ◌&&◌}
+use Rattle.std.specs.Prelude.{ℕ, List, [], ◌∷◌, codes, length, map, Option, Some, None, option_map, String, string_bytes, if◌then◌else◌, ◌&&◌, ◌==◌, ◌%◌, ⊤}
 use Rattle.std.specs.Str.{bytes_eq}
 use Rattle.std.specs.declared.alloc.Global.{Global}
+use Rattle.admin_wire.specs.declared.names.NameKind.{NameKind}
+use Rattle.admin_wire.specs.declared.names.NameKind.TheVariants.{Unlist, Relist, Delete}
 use Rattle.feed_paths.specs.Hives.{hive_of}
 use Rattle.feed_paths.specs.declared.hives.ServedHive.{ServedHive}
 use Rattle.feed_app.specs.Bases.{is_base}
 use Rattle.feed_app.specs.declared.words.Command as code
 use Rattle.feed_app.specs.declared.words.Command.TheVariants as code_of
 
+-- the text of an id and the text of a version
+abbrev pub Pair : Type 0
+Pair = List ℕ × List ℕ
+
 -- what can be asked for
 pub data Command : Type 0 where
   Init : List ℕ → Command
   Publish : Command
+  Names : NameKind → List Pair → Command
   Job : ServedHive → Command
   Get : List ℕ → Command
+
+-- the words by pairs, in their order; a last word that has no other behind it is left out
+abbrev pub pairs_of : List (List ℕ) → List Pair
+pairs_of [] = []
+pairs_of (word ∷ []) = []
+pairs_of (id ∷ version ∷ words) = (id, version) ∷ pairs_of words
+
+-- the words of the command line, as texts
+abbrev pub texts : List (String Global) → List (List ℕ)
+texts words = map string_bytes words
+
+-- it commits changes
+abbrev pub CommitsChanges : Command → Type 0
+CommitsChanges Publish = ⊤
+CommitsChanges (Names kind pairs) = ⊤
+CommitsChanges _ = ⊥
 
 -- what a command of the code asks for
 abbrev pub asked : code.Command → Command
 asked (code_of.Init base) = Init base.now
 asked code_of.Publish = Publish
+asked (code_of.Names kind words) = Names kind (pairs_of (texts words.now))
 asked (code_of.Job hive) = Job hive
 asked (code_of.Get path) = Get path.now
 
@@ -32,13 +56,21 @@ of_two_words word object =
     if bytes_eq word (codes "get") then Some (Get object) else
     None
 
+-- what is asked for the versions that are named behind this word
+abbrev pub name_kind : List ℕ → Option NameKind
+name_kind word =
+    if bytes_eq word (codes "unlist") then Some Unlist else
+    if bytes_eq word (codes "list") then Some Relist else
+    if bytes_eq word (codes "delete") then Some Delete else
+    None
+
+-- pairs have no word left
+abbrev pub of_more_words : List ℕ → List (List ℕ) → Option Command
+of_more_words word words = if length words % 2 == 0 then option_map (λ kind. Names kind (pairs_of words)) (name_kind word) else None
+
 -- the command of these words, where they have a meaning
 abbrev pub command_of : List (List ℕ) → Option Command
 command_of [] = None
 command_of (word ∷ []) = of_one_word word
 command_of (word ∷ object ∷ []) = of_two_words word object
-command_of (word ∷ object ∷ more ∷ words) = None
-
--- the words of the command line, as texts
-abbrev pub texts : List (String Global) → List (List ℕ)
-texts words = map string_bytes words
+command_of (word ∷ object ∷ more ∷ words) = of_more_words word (object ∷ more ∷ words)

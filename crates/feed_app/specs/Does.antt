@@ -1,11 +1,12 @@
 -- What a command does.
 use Rattle.std.specs.Prelude.{◌≡◌, Option, None, Some}
-use Rattle.feed_app.specs.Commands.{Command, Init, Get, Publish, Job}
+use Rattle.feed_app.specs.Commands.{Command, Init, Get, Publish, Names, Job}
 use Rattle.feed_app.specs.Frame.{Meaning, IsDone, Reach, nothing}
 use Rattle.feed_app.specs.Outside.{Members, Sight}
 use Rattle.feed_app.specs.Gets.{get_meaning}
 use Rattle.feed_app.specs.Inits.{init_meaning}
 use Rattle.feed_app.specs.Jobs.{job_meaning}
+use Rattle.feed_app.specs.Names.{names_meaning}
 use Rattle.feed_app.specs.Publishes.{publish_meaning}
 use Rattle.feed_app.specs.declared.answer.Answer.{Answer}
 use Rattle.feed_app.specs.declared.answer.Answer.TheVariants.{Usage}
@@ -13,6 +14,7 @@ use Rattle.feed_app.specs.declared.answer.Answer.TheVariants.{Usage}
 abbrev pub meaning : {B : Type 0} → Members B → Command → Meaning B
 meaning m (Init base) = init_meaning m base
 meaning m Publish = publish_meaning m
+meaning m (Names kind pairs) = names_meaning m kind pairs
 meaning m (Job hive) = job_meaning m hive
 meaning m (Get path) = get_meaning m path
 

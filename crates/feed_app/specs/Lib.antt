@@ -9,6 +9,7 @@ pub mod Gets
 pub mod Hives
 pub mod Inits
 pub mod Jobs
+pub mod Names
 pub mod Openings
 pub mod Outside
 pub mod Publishes

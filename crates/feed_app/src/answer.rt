@@ -70,6 +70,10 @@ pub enum Refusal {
     Body(u64),
     /// The metadata of the record at this place is refused.
     Meta { place: u64, why: MetaErr },
+    /// The id of the pair at this place is none.
+    Id(u64),
+    /// The version of the pair at this place is none.
+    Version(u64),
 }
 
 /// What a command answers, by the kind of its end.
@@ -224,6 +228,8 @@ impl Refusal {
             Refusal::Meta { place, why } => {
                 return wire_line(alloc, admin_wire::Refusal::Meta { place, why });
             }
+            Refusal::Id(place) => return counted_line(alloc, "id", place),
+            Refusal::Version(place) => return counted_line(alloc, "version", place),
             Refusal::Initialised => "refused initialised\n",
             Refusal::Uninitialised => "refused uninitialised\n",
             Refusal::UnsupportedCatalog => "refused unsupported\n",

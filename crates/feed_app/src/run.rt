@@ -11,6 +11,7 @@ use crate::answer::Answer;
 use crate::get::get;
 use crate::init::init;
 use crate::job::job;
+use crate::names::commit_names;
 use crate::publish::publish;
 use crate::words::{Command, meaning_of};
 use blob_store::Blobs;
@@ -35,6 +36,7 @@ fn act<B: Blobs, I: Source, C: Clock>(
         None => (Answer::Usage, stores),
         Some(Command::Init(base)) => init(alloc, stores, base),
         Some(Command::Publish) => publish(alloc, stores, input, clock),
+        Some(Command::Names(kind, words)) => commit_names(alloc, stores, kind, words, clock),
         Some(Command::Job(hive)) => job(alloc, stores, hive),
         Some(Command::Get(path)) => get(alloc, stores, path),
     }
@@ -56,7 +58,8 @@ fn write_answer<O: Sink>(alloc: Global, answer: Answer, output: &mut O) -> Statu
 
 /// Does what the words of a command say, on the stores and streams that are handed in, and writes the text of its
 /// answer. It knows `init` with a base address, which makes the catalog of no commits, `publish`, which commits the
-/// publishes that the input holds, `job` with `plain`, `semver2` or `content`, which builds that hive in an area without a
+/// publishes that the input holds, `unlist`, `list` and `delete` with pairs of an id and a version, which commit that of
+/// these versions, `job` with `plain`, `semver2` or `content`, which builds that hive in an area without a
 /// cursor, and `get` with a path, which writes the bytes of the document that the path names, one of the catalog's or of
 /// one of these hives.
 ///

@@ -1,8 +1,9 @@
 // What the words of a command mean.
-ghost use Rattle.std.specs.Prelude.{◌≡◌, ◌∷◌, [], ℕ, List, map, option_map, string_bytes, IfSome, IfNone};
-ghost use Rattle.feed_app.specs.Commands.{command_of, of_one_word, of_two_words, asked, texts};
+ghost use Rattle.std.specs.Prelude.{◌≡◌, ◌≢◌, ◌≤◌, ◌∷◌, [], ℕ, List, length, map, option_map, string_bytes, IfSome, IfNone};
+ghost use Rattle.feed_app.specs.Commands.{command_of, name_kind, of_one_word, of_two_words, of_more_words, asked, texts};
 
 use crate::base::is_base;
+use admin_wire::NameKind;
 use feed_paths::ServedHive;
 
 /// What the words of a command ask for.
@@ -12,6 +13,8 @@ pub enum Command<'a> {
     Init(&'a str),
     /// Commit the publish that the input holds.
     Publish,
+    /// Commit what is asked for the versions that these words name, by pairs of an id and a version.
+    Names(NameKind, &'a [String]),
     /// Build this hive.
     Job(ServedHive),
     /// Give the document that this path names.
@@ -62,6 +65,39 @@ fn meaning_of_two<'a>(word: &str, object: &'a str) -> Option<Command<'a>>
     }
 }
 
+// What is asked for the versions that are named behind this word.
+fn name_kind(word: &str) -> Option<NameKind>
+    ensures { result ≡ name_kind word.now }
+{
+    match word {
+        "unlist" => Some(NameKind::Unlist),
+        "list" => Some(NameKind::Relist),
+        "delete" => Some(NameKind::Delete),
+        _ => None,
+    }
+}
+
+// The first word and those behind it, where they are three or more.
+fn more_words(words: &[String]) -> Option<(&str, &[String])>
+    ensures some { IfSome result (λ p. (map string_bytes words.now ≡ p.0.now ∷ map string_bytes p.1.now) × (2 ≤ length p.1.now)) }
+    ensures none { IfNone result (length words.now ≤ 2) }
+{
+    match words {
+        [word, names @ ..] if names.len() >= 2 => Some((word.as_str(), names)),
+        _ => None,
+    }
+}
+
+// What a word means that has two or more behind it.
+fn meaning_of_more<'a>(word: &str, names: &'a [String]) -> Option<Command<'a>>
+    ensures { option_map asked result ≡ of_more_words word.now (texts names.now) }
+{
+    if names.len() % 2 != 0 {
+        return None;
+    }
+    Some(Command::Names(name_kind(word)?, names))
+}
+
 /// What the words mean, and nothing where they have no meaning.
 pub fn meaning_of(words: &[String]) -> Option<Command<'_>>
     ensures { option_map asked result ≡ command_of (texts words.now) }
@@ -69,6 +105,9 @@ pub fn meaning_of(words: &[String]) -> Option<Command<'_>>
     if let Some(word) = one_word(words) {
         return meaning_of_one(word);
     }
-    let (word, object) = two_words(words)?;
-    meaning_of_two(word, object)
+    if let Some((word, object)) = two_words(words) {
+        return meaning_of_two(word, object);
+    }
+    let (word, names) = more_words(words)?;
+    meaning_of_more(word, names)
 }

@@ -585,8 +585,12 @@ const REGISTRATIONS: [Step<'_>; 17] = [
     (&["get", "/v3/flat/foo/index.json"], "", 3, MISSING),
 ];
 
-// Asserts what each of the steps answers, from empty stores on, and that the catalog is that of the first publish.
-fn follow(rt: &impl Abort, alloc: Global, steps: &[Step<'_>]) -> Result<(), NoMemory> {
+// Asserts what each of the steps answers, from empty stores on.
+fn follow(
+    rt: &impl Abort,
+    alloc: Global,
+    steps: &[Step<'_>],
+) -> Result<Stores<MemBlobs>, NoMemory> {
     let mut stores = empty(alloc, &[], &[])?;
     for (place, (words, body, status, text)) in steps.iter().enumerate() {
         let (told, output, left) = run(alloc, stores, words, with_body(body))?;
@@ -594,19 +598,133 @@ fn follow(rt: &impl Abort, alloc: Global, steps: &[Step<'_>]) -> Result<(), NoMe
         assert_eq!(rt; output.bytes(), text.as_bytes(), "step {place}");
         stores = left;
     }
-    for (name, text) in FIRST {
-        assert!(rt;
-            holds(alloc, &mut stores.catalog, name, text.as_bytes()),
-            "{name}"
-        );
-    }
-    Ok(())
+    Ok(stores)
 }
 
 #[test]
 fn commands_follow_each_other(rt: HostRuntime) -> Result<(), Fail> {
-    follow(&rt, rt.alloc(), &SESSION)?;
-    follow(&rt, rt.alloc(), &REGISTRATIONS)?;
+    let alloc = rt.alloc();
+    let sessions: [&[Step<'_>]; 2] = [&SESSION, &REGISTRATIONS];
+    for steps in sessions {
+        let mut stores = follow(&rt, alloc, steps)?;
+        for (name, text) in FIRST {
+            assert!(rt;
+                holds(alloc, &mut stores.catalog, name, text.as_bytes()),
+                "{name}"
+            );
+        }
+    }
+    Ok(())
+}
+
+const UNLISTED: &str =
+    "{\"@id\":\"http://f.test/v3/catalog/data/2/0.json\",\"@type\":[\"PackageDetails\"],\"catalog:commitId\":\"00000000-0000-0000-0000-000000000002\",\"catalog:commitTimeStamp\":\"2024-01-01T00:00:00.0000001Z\",\"created\":\"2024-01-01T00:00:00.0000000Z\",\"id\":\"Foo\",\"isPrerelease\":false,\"listed\":false,\"origin\":\"1/0\",\"packageHash\":\"3a81oZNherrMQXNJriBBMRLm+k6JqX6iCp7u5ktV05ohkpkqJ0/BqDa6PCOj/uu9RU1EI2Q86A4qmslPpUyknw==\",\"packageHashAlgorithm\":\"SHA512\",\"packageSize\":3,\"published\":\"1900-01-01T00:00:00.0000000Z\",\"verbatimVersion\":\"1.0.0\",\"version\":\"1.0.0\"}";
+
+// The commands that name versions, from empty stores on.
+const LISTINGS: [Step<'_>; 16] = [
+    (&["init", "http://f.test/"], "", 0, "initialised\n"),
+    (&["publish"], FOO, 0, DONE),
+    (&["list", "Foo", "1.0.0"], "", 3, "refused already 0 1\n"),
+    (&["delete", "Bar", "1.0.0"], "", 3, "refused absent 0 0\n"),
+    (
+        &["unlist", "Foo", "1.0.0"],
+        "",
+        0,
+        "committed 2 2024-01-01T00:00:00.0000001Z\n",
+    ),
+    (&["get", "/v3/catalog/data/2/0.json"], "", 0, UNLISTED),
+    (&["unlist", "Foo", "1.0.0"], "", 3, "refused already 0 2\n"),
+    (&["unlist", "FOO", "1.0"], "", 3, "refused already 0 2\n"),
+    (
+        &["list", "Foo", "1.0.0"],
+        "",
+        0,
+        "committed 3 2024-01-01T00:00:00.0000002Z\n",
+    ),
+    (
+        &["publish"],
+        BAR,
+        0,
+        "committed 4 2024-01-01T00:00:00.0000003Z\n",
+    ),
+    (
+        &["unlist", "Bar", "1.0.0", "Foo", "1.0.0"],
+        "",
+        0,
+        "committed 5 2024-01-01T00:00:00.0000004Z\n",
+    ),
+    (
+        &["delete", "Foo", "1.0.0"],
+        "",
+        0,
+        "committed 6 2024-01-01T00:00:00.0000005Z\n",
+    ),
+    (&["delete", "Foo", "1.0.0"], "", 3, "refused absent 0 6\n"),
+    (&["job", "content"], "", 0, "done content 6\n"),
+    (&["get", "/v3/flat/foo/index.json"], "", 3, MISSING),
+    (&["get", "/v3/flat/bar/index.json"], "", 0, VERSIONS),
+];
+
+#[test]
+fn named_versions_are_changed(rt: HostRuntime) -> Result<(), Fail> {
+    follow(&rt, rt.alloc(), &LISTINGS)?;
+    Ok(())
+}
+
+#[test]
+fn pairs_of_words_are_read(rt: HostRuntime) -> Result<(), Fail> {
+    let alloc = rt.alloc();
+    let cases: [(usize, &[&str], u8, &str); 14] = [
+        (2, &["unlist"], 2, USAGE),
+        (2, &["list", "Foo"], 2, USAGE),
+        (2, &["delete", "Foo", "1.0.0", "Bar"], 2, USAGE),
+        (2, &["relist", "Foo", "1.0.0"], 2, USAGE),
+        (2, &["publish", "Foo", "1.0.0"], 2, USAGE),
+        (0, &["unlist", "Foo", "1.0.0"], 3, "refused uninitialised\n"),
+        (0, &["unlist", "Foo", "x"], 3, "refused version 0\n"),
+        (2, &["list", "", "1.0.0"], 3, "refused id 0\n"),
+        (2, &["delete", "a b", "x"], 3, "refused id 0\n"),
+        (
+            2,
+            &["delete", "Foo", "1.0.0", "a b", "1.0.0"],
+            3,
+            "refused id 1\n",
+        ),
+        (
+            2,
+            &["unlist", "Foo", "x", "a b", "1.0.0"],
+            3,
+            "refused version 0\n",
+        ),
+        (
+            2,
+            &["delete", "Foo", "1.0.0", "foo", "1.0"],
+            3,
+            "refused twice 1\n",
+        ),
+        (
+            2,
+            &["unlist", "Foo", "1.0.0", "Bar", "1.0.0"],
+            3,
+            "refused absent 1 0\n",
+        ),
+        (
+            2,
+            &["unlist", "Foo", "1.0.0"],
+            0,
+            "committed 2 2024-01-01T00:00:00.0000001Z\n",
+        ),
+    ];
+    for (place, (steps, words, status, text)) in cases.iter().enumerate() {
+        let stores = behind(alloc, *steps, &[], &[])?;
+        let unread = Given {
+            reads: &[1],
+            ..with_body(FOO)
+        };
+        let (told, output, _) = run(alloc, stores, words, unread)?;
+        assert_eq!(rt; told, *status, "case {place}");
+        assert_eq!(rt; output.bytes(), text.as_bytes(), "case {place}");
+    }
     Ok(())
 }
 

@@ -1,6 +1,6 @@
 use Rattle.std.proofs.Common.{◌≡◌, ◌∙◌, sym, subst, Bool, true, false}
 use Rattle.feed_app.specs.Bases.{IsName}
-use Rattle.feed_app.proofs.Names.{free_name}
+use Rattle.feed_app.proofs.HostNames.{free_name}
 use Rattle.feed_app.proofs.Tested.{tested}
 use Rattle.feed_app.proofs.base.is_base.Goals as goal
 

@@ -4,7 +4,7 @@ use Rattle.feed_app.specs.declared.answer.Answer.{Answer}
 use Rattle.feed_app.proofs.Closed.{closed_by}
 use Rattle.feed_app.proofs.Endings.{commits_behind}
 use Rattle.feed_app.proofs.Holding.{closed_spelled, open_over, opened_spelled}
-use Rattle.feed_app.proofs.publish.publish_into.Goals as goal
+use Rattle.feed_app.proofs.committing.commit_into.Goals as goal
 
 pub returns-in-Err-clause-ends : goal.returns-in-Err-clause-ends
 returns-in-Err-clause-ends g c =

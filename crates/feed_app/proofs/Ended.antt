@@ -1,0 +1,66 @@
+-- What follows where changes were to be committed, whatever the command.
+use Rattle.std.proofs.Common.{◌≡◌, ◌∙◌, ℕ, List, Option, inl, inr, refl, sym, subst}
+use Rattle.std.specs.Prelude.{Result, Ok, Err}
+use Rattle.pkg_meta.specs.Catalog.{Catalog}
+use Rattle.catalog_doc.specs.declared.change.Change.{Change}
+use Rattle.catalog_doc.specs.declared.change.Committed.{Committed}
+use Rattle.catalog_doc.specs.declared.error.CommitErr.{CommitErr}
+use Rattle.catalog_doc.specs.declared.error.CommitErr.TheVariants as error
+use Rattle.catalog_core.specs.Committing.{MayBeCommitted}
+use Rattle.feed_app.specs.Frame.{Explains, Reach, Touches}
+use Rattle.feed_app.specs.Outside.{AreaRose, Members, Sight}
+use Rattle.feed_app.specs.Publishes.{commit_reply, CommitsAt, Ends}
+use Rattle.feed_app.specs.Spelled.{HasCatalog}
+use Rattle.feed_app.specs.declared.answer.Answer.{Answer}
+use Rattle.feed_app.specs.declared.answer.Answer.TheVariants.{Refused, Fault, Damaged}
+use Rattle.feed_app.specs.declared.answer.Refusal.{Refusal}
+use Rattle.feed_app.specs.declared.area.AreaName.{AreaName}
+use Rattle.feed_app.specs.declared.area.AreaName.TheVariants as area
+use Rattle.feed_app.proofs.Closed.{closed_explains}
+use Rattle.feed_app.proofs.Endings.{not_damaged, not_refused}
+
+module _ {B : Type 0} (m : Members B) (before after : Sight B) (reach : Reach) (touches : Touches reach.catalog) where
+  abbrev Explained : Answer → Type 0
+  Explained answer = Explains m reach before answer after
+
+  commit_explains : (changes : List Change) (now : ℕ) (r : Result Committed CommitErr)
+      → (commit_reply r ≡ Fault area.Catalog → AreaRose m before.stores.catalog after.stores.catalog) → CommitsAt changes now (m.seen before.stores.catalog) (m.seen after.stores.catalog) r → Explained (commit_reply r)
+  commit_explains changes now (Ok done) rose is = tt
+  commit_explains changes now (Err error.Fault) rose is = (touches, rose refl)
+  commit_explains changes now (Err (error.Damaged name)) rose is = (touches, λ base cs has. is.commits base cs has)
+  commit_explains changes now (Err error.Memory) rose is = tt
+  commit_explains changes now (Err error.Empty) rose is = tt
+  commit_explains changes now (Err (error.TooMany count)) rose is = tt
+  commit_explains changes now (Err (error.Twice place)) rose is = tt
+  commit_explains changes now (Err (error.Exists place number)) rose is = tt
+  commit_explains changes now (Err (error.Absent place number)) rose is = tt
+  commit_explains changes now (Err (error.Already place number)) rose is = tt
+  commit_explains changes now (Err (error.IdFull place)) rose is = tt
+  commit_explains changes now (Err (error.Full items)) rose is = tt
+  commit_explains changes now (Err error.Unsupported) rose is = tt
+  commit_explains changes now (Err error.ClockEnd) rose is = tt
+
+  -- changes that were asked for
+  pub end_explains : (changes : List Change) (told later : Option (List ℕ)) (answer : Answer) → (answer ≡ Fault area.Catalog → AreaRose m before.stores.catalog after.stores.catalog)
+      → Ends answer changes (m.seen before.stores.catalog) (m.seen after.stores.catalog) told later → Explained answer
+  end_explains changes told later answer rose (inl (inl closed, spelled, unasked)) = closed_explains m reach before after answer touches rose closed
+  end_explains changes told later answer rose (inl (inr memory, spelled, unasked)) = subst Explained (sym memory) tt
+  end_explains changes told later answer rose (inr (now, r, tells, is, commits)) =
+      subst Explained (sym is) (commit_explains changes now r (λ fault. rose (is ∙ fault)) commits)
+
+module _ {B : Type 0} (m : Members B) (before after : Sight B) (base : List ℕ) (cs : Catalog) (changes : List Change) (told later : Option (List ℕ))
+    (has : HasCatalog (m.seen before.stores.catalog) base cs) where
+  abbrev EndsSo : Answer → Type 0
+  EndsSo answer = Ends answer changes (m.seen before.stores.catalog) (m.seen after.stores.catalog) told later
+
+  -- changes that may be committed aren't refused
+  pub end_taken : ((now : ℕ) → MayBeCommitted cs changes now) → (why : Refusal) → EndsSo (Refused why) → ⊥
+  end_taken taken why (inl (inl closed, spelled, unasked)) = closed.of_store base cs has
+  end_taken taken why (inl (inr memory, spelled, unasked)) = cc memory
+  end_taken taken why (inr (now, r, tells, is, commits)) =
+      not_refused cs changes now (HasCatalog (m.seen after.stores.catalog) base) why r (taken now) (sym is) (commits.commits base cs has)
+
+  pub end_sound : (name : AreaName) (blob : List ℕ) → EndsSo (Damaged name blob) → ⊥
+  end_sound name blob (inl (inl closed, spelled, unasked)) = closed.of_store base cs has
+  end_sound name blob (inl (inr memory, spelled, unasked)) = cc memory
+  end_sound name blob (inr (now, r, tells, is, commits)) = not_damaged cs changes now (HasCatalog (m.seen after.stores.catalog) base) name blob r (sym is) (commits.commits base cs has)
