@@ -1,8 +1,8 @@
 #!/usr/bin/env python3
 """Publishes packages as NuGet's tools make them: `publish.sh` calls it once the program is built.
 
-Use: packages.py PROGRAM FOLDER PACKAGE.nupkg..
-     packages.py PROGRAM FOLDER --id ID --version VERSION --nuspec FILE PACKAGE.nupkg
+Use: packages.py PROGRAM FOLDER [--unlisted] PACKAGE.nupkg..
+     packages.py PROGRAM FOLDER [--unlisted] --id ID --version VERSION --nuspec FILE PACKAGE.nupkg
      packages.py --check WORDS..   reads what the words behind FOLDER name, and publishes nothing
 
 A package is a zip archive with one manifest, a file `<name>.nuspec`, at its root (Microsoft Learn, ".nuspec reference").
@@ -11,7 +11,8 @@ takes the id and the version from the words, and the manifest from a file, in pl
 
 All packages are read before the first is published: where one is no package, nothing is published. Up to 64 packages and 64 MiB
 are one commit, and what is more goes into further commits. The program's answer to each is printed as it comes, and its status
-is that of the first commit that wasn't done.
+is that of the first commit that wasn't done. With --unlisted the versions that a commit published are unlisted by the next
+one.
 """
 import json
 import re
@@ -186,9 +187,12 @@ def commits(packages):
         yield run
 
 
-def publish(program, folder, packages):
+def publish(program, folder, packages, unlisted):
     for run in commits(packages):
         ran = subprocess.run([program, folder, "publish"], input=b"".join(one[2] for one in run))
+        if ran.returncode == 0 and unlisted:
+            pairs = [word for one in run for word in one[:2]]
+            ran = subprocess.run([program, folder, "unlist", *pairs], stdin=subprocess.DEVNULL)
         if ran.returncode != 0:
             return ran.returncode
     return 0
@@ -218,18 +222,21 @@ def packages_of(words):
 
 def main(words):
     check = words[:1] == ["--check"]
-    if len(words) < 2 + (not check):
+    named = words[1:] if check else words[2:]
+    unlisted = named[:1] == ["--unlisted"]
+    named = named[unlisted:]
+    if not named:
         print(__doc__.split("\n\n")[1], file=sys.stderr)
         return 2
     try:
-        packages = packages_of(words[1:] if check else words[2:])
+        packages = packages_of(named)
     except NoPackage as error:
         print(error, file=sys.stderr)
         return 2
     except OSError as error:
         print(f"{error.filename}: {error.strerror}", file=sys.stderr)
         return 2
-    return 0 if check else publish(words[0], words[1], packages)
+    return 0 if check else publish(words[0], words[1], packages, unlisted)
 
 
 if __name__ == "__main__":

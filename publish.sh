@@ -1,12 +1,12 @@
 #!/bin/sh
 # Publishes packages as NuGet's tools make them into a feed in a folder, and makes the feed where there is none.
 #
-# Use: sh publish.sh FOLDER PACKAGE.nupkg..
-# Use: sh publish.sh FOLDER --id ID --version VERSION --nuspec FILE PACKAGE.nupkg
+# Use: sh publish.sh FOLDER [--unlisted] PACKAGE.nupkg..
+# Use: sh publish.sh FOLDER [--unlisted] --id ID --version VERSION --nuspec FILE PACKAGE.nupkg
 # FOLDER is the feed's folder. The first form takes the metadata out of each package's manifest (see packages.py); where one
-# isn't a package, nothing is published. The second takes the id, the version and the manifest from the words. The program
-# is proved and built first where it isn't there. A feed that is made here has the base address BASE,
-# http://localhost.feed/ unless it is set.
+# isn't a package, nothing is published. The second takes the id, the version and the manifest from the words. With
+# --unlisted what is published is then unlisted. The program is proved and built first where it isn't there. A feed that is
+# made here has the base address BASE, http://localhost.feed/ unless it is set.
 #
 # The program answers each commit, of up to 64 packages, with a line; its status says whether that is a refusal.
 

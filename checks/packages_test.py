@@ -60,9 +60,12 @@ FLAT = BARE.replace("</metadata>", '<dependencies><dependency id="Bar" version="
 PROGRAM = """#!/bin/sh
 n=$(($(cat "$1/count" 2>/dev/null || echo 0) + 1))
 echo $n >"$1/count"
-cat >"$1/body$n"
+feed=$1
+shift
+echo "$@" >"$feed/words$n"
+cat >"$feed/body$n"
 echo "answer $n"
-exit $(cat "$1/status$n" 2>/dev/null || echo 0)
+exit $(cat "$feed/status$n" 2>/dev/null || echo 0)
 """
 
 passed = failed = 0
@@ -158,17 +161,21 @@ def programs(folder):
     nuspec = BARE.replace("Foo", "Foo0").encode()
     first = b"%d %d %d\n" % (len(meta), len(nuspec), os.path.getsize(good[0])) + meta + nuspec + packages.read(good[0])
     check("a record", body(feed, 1).startswith(first))
-    with open(f"{feed}/status3", "w", encoding="ascii") as file:
+    status, out, err = run(program, feed, "--unlisted", *good[:2])
+    with open(f"{feed}/words4", encoding="ascii") as file:
+        words = file.read()
+    check("an unlisting follows", (status, out, words) == (0, "answer 3\nanswer 4\n", "unlist Foo0 1.0.0 Foo1 1.0.0\n"))
+    with open(f"{feed}/status5", "w", encoding="ascii") as file:
         file.write("3")
     status, out, err = run(program, feed, *good)
-    check("a refused commit ends it", (status, out) == (3, "answer 3\n"))
+    check("a refused commit ends it", (status, out) == (3, "answer 5\n"))
     by_hand = ["--id", "Bar", "--version", "2.0", "--nuspec", __file__]
     status, out, err = run(program, feed, *by_hand, good[0])
-    check("by hand", (status, out) == (0, "answer 4\n") and body(feed, 4).startswith(b'%d %d %d\n{"id":"Bar","version":"2.0"}'
+    check("by hand", (status, out) == (0, "answer 6\n") and body(feed, 6).startswith(b'%d %d %d\n{"id":"Bar","version":"2.0"}'
           % (28, os.path.getsize(__file__), os.path.getsize(good[0]))))
     check("by hand without a manifest", run(program, feed, *by_hand[:4], good[0])[0] == 2)
     status, out, err = run("--check", *good[:2])
-    check("a check alone publishes nothing", (status, out, err) == (0, "", "") and not os.path.exists(f"{feed}/body5"))
+    check("a check alone publishes nothing", (status, out, err) == (0, "", "") and not os.path.exists(f"{feed}/body7"))
     check("a check of a bad package", run("--check", good[0], bad)[0] == 2)
     check("two packages are cut at 64 MiB", [len(run) for run in packages.commits([("", "", bytes(40 << 20))] * 2)] == [1, 1])
 
