@@ -2,8 +2,9 @@
 # A benchmark, and no test: 100 publishes, each by a process of `feed` of its own, beside one process of C that makes the
 # same puts with all their syncs. The two take turns, publish by publish, so that the disk is the same for both. Then the
 # three hives of catalogs of 128, 256 and 512 packages, each hive by one process, beside the bare puts of the same
-# documents. It takes about a minute, and prints the times and their ratios. It is skipped where python3, a C compiler or
-# the program is missing.
+# documents. Then commits of 64 packages beside the same packages one by one, and openings of catalogs of 2,000 to 200,000
+# items beside a program of Python that reads and parses the same pages with its own JSON reader. It takes some minutes, and
+# prints the times and their ratios. It is skipped where python3, a C compiler or the program is missing.
 #
 # Use: sh checks/speed.sh [PROGRAM]
 # PROGRAM is crates/feed/out/feed unless it is given.
@@ -28,12 +29,14 @@ trap 'exit 1' HUP INT TERM
 cc -O2 -o "$work/puts" "$here/puts.c" || exit 1
 
 python3 - "$feed" "$work" <<'EOF'
-import os, shutil, subprocess, sys, time
+import json, os, shutil, subprocess, sys, time
 
 feed, work = sys.argv[1], sys.argv[2]
 store, plain = work + "/store", work + "/plain/catalog"
 MOST, LIMIT = 100, 60.0
 SIZES, HIVES = [128, 256, 512], ["plain", "semver2", "content"]
+ITEMS, PAGE = [2_000, 20_000, 200_000], 512
+PARSE = "import json, sys; [json.load(open(f'{sys.argv[1]}/page{k}.json')) for k in range(int(sys.argv[2]))]"
 
 def publish(number):
     meta = b'{"id":"Speed%d","version":"1.0.0"}' % number
@@ -88,6 +91,73 @@ def hives(size):
         told = f"{len(names)} documents, {ours / len(names) * 1000:.2f} ms each, bare puts {theirs / len(names) * 1000:.2f} ms"
         print(f"{hive} of {size} packages: {told}, ratio {ours / theirs:.2f}")
 
+def record(name):
+    meta = b'{"id":"%s","version":"1.0.0"}' % name.encode()
+    return b"%d 10 3\n%s<package/>abc" % (len(meta), meta)
+
+def told(words, body=b""):
+    begin = time.monotonic()
+    ran = subprocess.run([feed, *words], input=body, stdout=subprocess.PIPE)
+    if ran.returncode != 0:
+        sys.exit(f"checks/speed.sh: {words} was told {ran.stdout}")
+    return time.monotonic() - begin
+
+def together():
+    """Eight commits of 64 packages in one folder, and a quarter as many packages one by one in another, in turns."""
+    many, single = work + "/many", work + "/single"
+    for folder in [many, single]:
+        told([folder, "init", "http://f.test/"])
+    all_at_once = one_by_one = 0.0
+    for turn in range(8):
+        names = [f"Turn{turn}.Package{at}" for at in range(64)]
+        all_at_once += told([many, "publish"], b"".join(map(record, names))) / 64
+        one_by_one += sum(told([single, "publish"], record(name)) for name in names[:16]) / 16
+    print(f"64 packages in one commit: {all_at_once / 8 * 1000:.2f} ms each, one by one {one_by_one / 8 * 1000:.2f} ms, "
+          f"ratio {all_at_once / one_by_one:.2f}")
+
+def stamp(number):
+    return f"2024-01-01T{number // 3600:02d}:{number // 60 % 60:02d}:{number % 60:02d}.0000000Z"
+
+def catalog_of(area, items):
+    """The index and the pages of a catalog of so many publishes, 64 a commit; no opening reads leaves."""
+    base, heads = "http://f.test/v3/catalog/", []
+    os.makedirs(area)
+    for first in range(0, items, PAGE):
+        rows = []
+        for at in range(first, min(first + PAGE, items)):
+            number, place = at // 64 + 1, at % 64
+            head = {"commitId": f"00000000-0000-0000-0000-{number:012x}", "commitTimeStamp": stamp(number)}
+            rows.append({"@id": f"{base}data/{number}/{place}.json", "@type": "nuget:PackageDetails", **head,
+                         "nuget:id": f"Some.Package{at}", "nuget:version": "1.0.0"})
+        name = f"page{first // PAGE}.json"
+        heads.append({"@id": base + name, **head, "count": len(rows)})
+        with open(f"{area}/{name}", "w", encoding="ascii") as file:
+            json.dump({**heads[-1], "items": rows, "parent": base + "index.json"}, file, separators=(",", ":"))
+    with open(f"{area}/index.json", "w", encoding="ascii") as file:
+        json.dump({"@id": base + "index.json", **head, "count": len(heads), "items": heads}, file, separators=(",", ":"))
+    return len(heads)
+
+def best_of(times, words):
+    spent = []
+    for _ in range(times):
+        begin = time.monotonic()
+        child = subprocess.Popen(words, stdin=subprocess.DEVNULL, stdout=subprocess.DEVNULL)
+        _, status, usage = os.wait4(child.pid, 0)
+        spent.append((time.monotonic() - begin, usage.ru_maxrss))
+        if status != 0:
+            sys.exit(f"checks/speed.sh: {words} ended with {status}")
+    return min(spent)
+
+def openings():
+    for items in ITEMS:
+        folder = f"{work}/items{items}"
+        pages = catalog_of(folder + "/catalog", items)
+        length = sum(os.path.getsize(f"{folder}/catalog/page{page}.json") for page in range(pages))
+        ours, memory = best_of(3, [feed, folder, "get", "/v3/catalog/index.json"])
+        theirs, _ = best_of(3, [sys.executable, "-c", PARSE, folder + "/catalog", str(pages)])
+        print(f"opening {items} items, {length / (1 << 20):.1f} MiB of pages: {ours * 1000:.0f} ms, {ours / items * 1e6:.2f} us an item, "
+              f"{memory / 1024:.1f} MiB of memory at the most; Python's reader {theirs * 1000:.0f} ms, ratio {ours / theirs:.2f}")
+
 if subprocess.run([feed, store, "init", "http://f.test/"], stdout=subprocess.DEVNULL).returncode != 0:
     sys.exit("checks/speed.sh: init failed")
 child = bare_puts(plain)
@@ -104,4 +174,6 @@ for size in SIZES:
         done += 1
         publish(done)
     hives(size)
+together()
+openings()
 EOF
