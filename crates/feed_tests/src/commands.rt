@@ -373,47 +373,55 @@ const REFUSED_BODIES: [(&str, &str); 23] = [
     ),
 ];
 
-// The bytes of the blob of this name.
-fn holds(alloc: Global, area: &mut MemBlobs, name: &str, want: &[u8]) -> bool {
+// Whether the blob of this name is this text.
+fn holds(alloc: Global, area: &mut MemBlobs, name: &str, want: &str) -> bool {
     match area.get(alloc, name) {
-        Ok(Some(bytes)) => bytes.as_slice() == want,
+        Ok(Some(bytes)) => bytes.as_slice() == want.as_bytes(),
         _ => false,
     }
+}
+
+// The first page with another id and another version.
+fn first_page_of(alloc: Global, id: &str, version: &str) -> Result<String, NoMemory> {
+    let version = format!(in alloc; "\"{version}\"")?;
+    let id = format!(in alloc; "\"{id}\"")?;
+    let page = PAGE.replace(alloc, "\"1.0.0\"", &version)?;
+    Ok(page.replace(alloc, "\"Foo\"", &id)?)
+}
+
+// Whether a publish of this body is committed, with this page and these files.
+fn is_published(
+    alloc: Global,
+    body: &str,
+    page: &str,
+    nuspec: &str,
+    nupkg: &str,
+) -> Result<bool, NoMemory> {
+    let stores = behind(alloc, 1, &[], &[])?;
+    let (_, output, mut stores) = run(alloc, stores, &["publish"], with_body(body))?;
+    let area = &mut stores.catalog;
+    Ok(
+        output.bytes() == DONE.as_bytes()
+            && holds(alloc, area, "page0.json", page)
+            && holds(alloc, area, "staged/1/0.nuspec", nuspec)
+            && holds(alloc, area, "staged/1/0.nupkg", nupkg),
+    )
 }
 
 #[test]
 fn a_publish_is_read_whole(rt: HostRuntime) -> Result<(), Fail> {
     let alloc = rt.alloc();
-    for (body, id, version, nuspec, nupkg) in ACCEPTED {
-        let stores = behind(alloc, 1, &[], &[])?;
-        let (_, output, mut stores) = run(alloc, stores, &["publish"], with_body(body))?;
-        assert_eq!(rt; output.bytes(), DONE.as_bytes(), "{body}");
-        let page = PAGE.replace(alloc, "\"1.0.0\"", &format!(in alloc; "\"{version}\"")?)?;
-        let page = page.replace(alloc, "\"Foo\"", &format!(in alloc; "\"{id}\"")?)?;
-        assert!(rt;
-            holds(alloc, &mut stores.catalog, "page0.json", page.as_bytes()),
-            "{body}"
-        );
-        assert!(rt;
-            holds(
-                alloc,
-                &mut stores.catalog,
-                "staged/1/0.nuspec",
-                nuspec.as_bytes()
-            ),
-            "{body}"
-        );
-        assert!(rt;
-            holds(
-                alloc,
-                &mut stores.catalog,
-                "staged/1/0.nupkg",
-                nupkg.as_bytes()
-            ),
-            "{body}"
-        );
+    for (body, id, version, nuspec, nupkg) in &ACCEPTED {
+        let page = first_page_of(alloc, id, version)?;
+        assert!(rt; is_published(alloc, body, &page, nuspec, nupkg)?, "{body}");
     }
-    for (body, line) in REFUSED_BODIES {
+    Ok(())
+}
+
+#[test]
+fn bodies_are_refused(rt: HostRuntime) -> Result<(), Fail> {
+    let alloc = rt.alloc();
+    for (body, line) in &REFUSED_BODIES {
         let stores = behind(alloc, 1, &[], &[])?;
         let (told, output, _) = run(alloc, stores, &["publish"], with_body(body))?;
         assert_eq!(rt; told, 3, "{body}");
@@ -608,10 +616,7 @@ fn commands_follow_each_other(rt: HostRuntime) -> Result<(), Fail> {
     for steps in sessions {
         let mut stores = follow(&rt, alloc, steps)?;
         for (name, text) in FIRST {
-            assert!(rt;
-                holds(alloc, &mut stores.catalog, name, text.as_bytes()),
-                "{name}"
-            );
+            assert!(rt; holds(alloc, &mut stores.catalog, name, text), "{name}");
         }
     }
     Ok(())
