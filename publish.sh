@@ -78,4 +78,5 @@ fi
 if [ ! -e "$folder/catalog/index.json" ]; then
   "$feed" "$folder" init "${BASE:-http://localhost.feed/}" </dev/null || exit
 fi
-exec python3 "$top/packages.py" "$feed" "$folder" "$@"
+python3 "$top/packages.py" "$feed" "$folder" "$@" || exit
+echo "publish.sh: the catalog is written by $feed $folder get /v3/catalog/index.json" >&2
