@@ -8,4 +8,6 @@ mod cursors;
 #[cfg(test)]
 mod openings;
 #[cfg(test)]
+mod reads;
+#[cfg(test)]
 mod rows;
