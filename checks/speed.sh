@@ -91,8 +91,8 @@ def hives(size):
         told = f"{len(names)} documents, {ours / len(names) * 1000:.2f} ms each, bare puts {theirs / len(names) * 1000:.2f} ms"
         print(f"{hive} of {size} packages: {told}, ratio {ours / theirs:.2f}")
 
-def record(name):
-    meta = b'{"id":"%s","version":"1.0.0"}' % name.encode()
+def record(name, version="1.0.0"):
+    meta = b'{"id":"%s","version":"%s"}' % (name.encode(), version.encode())
     return b"%d 10 3\n%s<package/>abc" % (len(meta), meta)
 
 def told(words, body=b""):
@@ -114,6 +114,18 @@ def together():
         one_by_one += sum(told([single, "publish"], record(name)) for name in names[:16]) / 16
     print(f"64 packages in one commit: {all_at_once / 8 * 1000:.2f} ms each, one by one {one_by_one / 8 * 1000:.2f} ms, "
           f"ratio {all_at_once / one_by_one:.2f}")
+
+def one_id():
+    """The hives of a catalog of one id, of which a job has all versions before it at each."""
+    for count in [128, 512, 2048]:
+        folder = f"{work}/one{count}"
+        told([folder, "init", "http://f.test/"])
+        for first in range(0, count, 64):
+            told([folder, "publish"], b"".join(record("Foo", f"1.{minor}.0") for minor in range(first, first + 64)))
+        for hive in HIVES:
+            ours = told([folder, "job", hive])
+            length = len(documents(f"{folder}/{hive}"))
+            print(f"{hive} of one id with {count} versions: {length} documents, {ours / length * 1000:.2f} ms each")
 
 def stamp(number):
     return f"2024-01-01T{number // 3600:02d}:{number // 60 % 60:02d}:{number % 60:02d}.0000000Z"
@@ -174,6 +186,7 @@ for size in SIZES:
         done += 1
         publish(done)
     hives(size)
+one_id()
 together()
 openings()
 EOF
