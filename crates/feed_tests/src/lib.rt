@@ -6,10 +6,16 @@
 #[cfg(test)]
 mod blobs;
 #[cfg(test)]
+mod bodies;
+#[cfg(test)]
 mod commands;
+#[cfg(test)]
+mod failures;
 #[cfg(test)]
 mod folders;
 #[cfg(test)]
 mod outside;
 #[cfg(test)]
 mod paths;
+#[cfg(test)]
+mod runs;
