@@ -219,7 +219,8 @@ commits, attempts, killed, passed, failed = [], {}, 0, 0, 0
 spent = 0.02
 while killed < kills and not failed and time.monotonic() - begin < LIMIT:
     commit = change(commits)
-    kill = dice.uniform(0, 1.2 * spent) if dice.random() < 0.9 else None
+    # Each tenth is not killed, and tells how long a commit takes.
+    kill = None if passed % 10 == 0 else dice.uniform(0, 1.2 * spent)
     at = time.monotonic()
     try:
         commits = one(commits, commit, attempts, kill)
