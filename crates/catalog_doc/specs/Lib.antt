@@ -3,6 +3,7 @@ pub mod Catalogs
 pub mod Commits
 pub mod Documents
 pub mod Errors
+pub mod Events
 pub mod Hash
 pub mod Laws
 pub mod Members
