@@ -22,8 +22,8 @@ pub record IsPagePut (m : Area) (base : List ℕ) (cs : Catalog) (c : Stored) (n
   pub lawful : IsCatalog (cs ++ c ∷ [])
   pub objects : HoldsCommit m base c
   pub index : HoldsIndex m base cs
-  pub name : name ≡ page_name (next_page cs c)
-  pub bytes : doc_at base (cs ++ c ∷ []) name ≡ Some bytes
+  pub page : name ≡ page_name (next_page cs c)
+  pub text : doc_at base (cs ++ c ∷ []) name ≡ Some bytes
 
 -- the catalog's index
 abbrev pub IsIndexPut : List ℕ → Catalog → List ℕ → List ℕ → Type 0
