@@ -1,8 +1,9 @@
--- The source, the sink and the clock in memory: which of their calls are to fail, and how many there were.
+-- The source, the sink, the link and the clock in memory: which of their calls are to fail, and how many there were.
 use Rattle.std.specs.Prelude.{◌≡◌, ◌⊎◌, ◌<◌, ◌+◌, ℕ, List, length, Contains}
 use Rattle.feed_base.specs.Clock.{answer_at}
 use Rattle.feed_base.specs.Counts.{raised}
 use Rattle.feed_base.specs.declared.clock_list.ClockList.{ClockList}
+use Rattle.feed_base.specs.declared.link_mem.LinkMem.{LinkMem}
 use Rattle.feed_base.specs.declared.sink_mem.SinkMem.{SinkMem}
 use Rattle.feed_base.specs.declared.source_mem.SourceMem.{SourceMem}
 
@@ -41,3 +42,7 @@ IsNextAnswer answer c = answer ≡ answer_at c.list.items c.calls
 -- an answer more was given
 abbrev pub HasAnswered : ClockList → ClockList → Type 0
 HasAnswered old new = (new.calls ≡ raised old.calls) × (new.list.items ≡ old.list.items)
+
+-- no call was made, the reads and writes of these numbers are to fail, and there is this room
+abbrev pub IsNewLink : ℕ → List ℕ → List ℕ → LinkMem → Type 0
+IsNewLink room reads writes l = IsNewSource reads l.input × IsNewSink room writes l.output
