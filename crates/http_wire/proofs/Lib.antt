@@ -1,0 +1,12 @@
+pub mod EndLemmas
+pub mod LawLemmas
+pub mod FieldLemmas
+pub mod LineLemmas
+pub mod AnswerLemmas
+pub mod AskLemmas
+pub mod BodyLemmas
+pub mod BufferLemmas
+pub mod DigitLemmas
+pub mod PhraseLemmas
+pub mod ScanLemmas
+pub mod TalkLemmas

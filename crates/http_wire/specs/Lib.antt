@@ -1,0 +1,10 @@
+pub mod Ask
+pub mod Fields
+pub mod Found
+pub mod Heads
+pub mod Laws
+pub mod Lines
+pub mod Reading
+pub mod Response
+pub mod Scanned
+pub mod Talk
