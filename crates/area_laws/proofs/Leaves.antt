@@ -106,7 +106,8 @@ module _ (d e : Details) (leaf : Data) (v : IsDetailsValue d) (w : IsDetailsValu
         groups = groups i;
       }
 
-  details_same : d ≡ e
+  -- details that one value shows are the same
+  pub details_same : d ≡ e
   details_same =
       let created : d.created ≡ e.created =
       same_stamp d.created e.created v.created w.created (same_Some _ _ (sym (shows_created d leaf p) ∙ shows_created e leaf q)) in
