@@ -64,7 +64,6 @@ stopped_before cs changes now P (commit.Absent p n) reason stays = (refused cs c
 stopped_before cs changes now P (commit.Already p n) reason stays = (refused cs changes now (commit.Already p n) reason, stays)
 stopped_before cs changes now P (commit.IdFull p) reason stays = (refused cs changes now (commit.IdFull p) reason, stays)
 stopped_before cs changes now P (commit.Full n) reason stays = (refused cs changes now (commit.Full n) reason, stays)
-stopped_before cs changes now P commit.Unsupported reason stays = (refused cs changes now commit.Unsupported reason, stays)
 stopped_before cs changes now P commit.ClockEnd reason stays = (refused cs changes now commit.ClockEnd reason, stays)
 
 with_or_without : (cs : Catalog) (changes : List Change) (now : ℕ) (P : Catalog → Type 0) → MayBeCommitted cs changes now → P cs ⊎ P (with_made cs changes now) → WithOrWithout cs changes now P
@@ -86,7 +85,6 @@ after_puts cs changes now P base plan puts a b (Err (commit.Absent p n)) is of t
 after_puts cs changes now P base plan puts a b (Err (commit.Already p n)) is of told runs left = absurd runs
 after_puts cs changes now P base plan puts a b (Err (commit.IdFull p)) is of told runs left = absurd runs
 after_puts cs changes now P base plan puts a b (Err (commit.Full n)) is of told runs left = absurd runs
-after_puts cs changes now P base plan puts a b (Err commit.Unsupported) is of told runs left = absurd runs
 after_puts cs changes now P base plan puts a b (Err commit.ClockEnd) is of told runs left = absurd runs
 
 -- the calls of a commit that was refused, or stopped within its gets
@@ -103,7 +101,6 @@ runs_refused base cs changes now a b (commit.Absent p n) halts reason = halts
 runs_refused base cs changes now a b (commit.Already p n) halts reason = halts
 runs_refused base cs changes now a b (commit.IdFull p) halts reason = halts
 runs_refused base cs changes now a b (commit.Full n) halts reason = halts
-runs_refused base cs changes now a b commit.Unsupported halts reason = halts
 runs_refused base cs changes now a b commit.ClockEnd halts reason = halts
 
 -- the same behind other calls
@@ -125,7 +122,6 @@ module _ (first : List Act) (base : List ℕ) (cs : Catalog) (changes : List Cha
   runs_behind (Err (commit.Already p n)) made runs = makes_then first (refused_gets (all_rows cs) changes (commit.Already p n)) a b c made runs
   runs_behind (Err (commit.IdFull p)) made runs = makes_then first (refused_gets (all_rows cs) changes (commit.IdFull p)) a b c made runs
   runs_behind (Err (commit.Full n)) made runs = makes_then first (refused_gets (all_rows cs) changes (commit.Full n)) a b c made runs
-  runs_behind (Err commit.Unsupported) made runs = makes_then first (refused_gets (all_rows cs) changes commit.Unsupported) a b c made runs
   runs_behind (Err commit.ClockEnd) made runs = makes_then first (refused_gets (all_rows cs) changes commit.ClockEnd) a b c made runs
 
 -- stopped while settling
@@ -155,7 +151,6 @@ runs_put base cs changes now a b c (Err (commit.Absent p n)) is first second = a
 runs_put base cs changes now a b c (Err (commit.Already p n)) is first second = absurd second
 runs_put base cs changes now a b c (Err (commit.IdFull p)) is first second = absurd second
 runs_put base cs changes now a b c (Err (commit.Full n)) is first second = absurd second
-runs_put base cs changes now a b c (Err commit.Unsupported) is first second = absurd second
 runs_put base cs changes now a b c (Err commit.ClockEnd) is first second = absurd second
 
 -- what is counted where a plan was made as a read tells
@@ -177,7 +172,6 @@ puts_count calls a b (Err (commit.Absent p n)) runs = absurd runs
 puts_count calls a b (Err (commit.Already p n)) runs = absurd runs
 puts_count calls a b (Err (commit.IdFull p)) runs = absurd runs
 puts_count calls a b (Err (commit.Full n)) runs = absurd runs
-puts_count calls a b (Err commit.Unsupported) runs = absurd runs
 puts_count calls a b (Err commit.ClockEnd) runs = absurd runs
 
 -- at a crash within the gets, or within the puts behind them
@@ -235,7 +229,6 @@ err_damage {C} P Q error r is to told = subst (λ (x : Result C CommitErr). IfDa
     by_error (commit.Already p n) here = tt
     by_error (commit.IdFull p) here = tt
     by_error (commit.Full n) here = tt
-    by_error commit.Unsupported here = tt
     by_error commit.ClockEnd here = tt
     by_error commit.Fault here = tt
     by_error commit.Memory here = tt
@@ -264,7 +257,6 @@ puts_settle settled puts a b (Err (commit.Absent p n)) runs is = absurd runs
 puts_settle settled puts a b (Err (commit.Already p n)) runs is = absurd runs
 puts_settle settled puts a b (Err (commit.IdFull p)) runs is = absurd runs
 puts_settle settled puts a b (Err (commit.Full n)) runs is = absurd runs
-puts_settle settled puts a b (Err commit.Unsupported) runs is = absurd runs
 puts_settle settled puts a b (Err commit.ClockEnd) runs is = absurd runs
 
 -- refused, and settled as before
@@ -283,7 +275,6 @@ stays_settled_at settled error r told is = subst (SettlesIf settled) (sym told) 
     by_error (commit.Already p n) = is
     by_error (commit.IdFull p) = is
     by_error (commit.Full n) = is
-    by_error commit.Unsupported = is
     by_error commit.ClockEnd = is
 
 -- stopped while settling

@@ -35,8 +35,6 @@ pub enum CommitErr {
     IdFull(u32),
     /// The catalog has this many items, and has no room for those of the commit.
     Full(u32),
-    /// The catalog has 512 items, as many as this program takes.
-    Unsupported,
     /// The last stamp is the last moment of the calendar.
     ClockEnd,
     /// A call of the store failed.
@@ -97,7 +95,6 @@ impl fmt::Display for CommitErr {
                 )
             }
             CommitErr::Full(items) => write!(f, "the catalog has {items} items and no room"),
-            CommitErr::Unsupported => f.write_str("the catalog has 512 items"),
             CommitErr::ClockEnd => f.write_str("the last stamp is the calendar's last moment"),
             CommitErr::Fault => f.write_str("the store failed"),
             CommitErr::Damaged(name) => {

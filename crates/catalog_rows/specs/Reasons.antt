@@ -52,5 +52,4 @@ IsOfRows the.Fault = ⊥
 IsOfRows (the.Damaged name) = ⊥
 IsOfRows the.Memory = ⊥
 IsOfRows (the.Already place number) = ⊥
-IsOfRows the.Unsupported = ⊥
 IsOfRows error = ⊤

@@ -81,7 +81,6 @@ module _ (rows : List Row) (changes : List Change) (i : ℕ) (change : Change) (
   looked_up_to (commit.Absent p n) halts = absurd halts
   looked_up_to (commit.IdFull p) halts = absurd halts
   looked_up_to (commit.Full n) halts = absurd halts
-  looked_up_to commit.Unsupported halts = absurd halts
   looked_up_to commit.ClockEnd halts = absurd halts
 
 -- refused before the first get
@@ -95,7 +94,6 @@ unlooked rows changes a (commit.IdFull p) sure kind = none a sure
 unlooked rows changes a (commit.Full n) sure kind = none a sure
 unlooked rows changes a commit.ClockEnd sure kind = none a sure
 unlooked rows changes a (commit.Already at number) sure kind = absurd kind
-unlooked rows changes a commit.Unsupported sure kind = absurd kind
 unlooked rows changes a commit.Fault sure kind = absurd kind
 unlooked rows changes a (commit.Damaged name) sure kind = absurd kind
 unlooked rows changes a commit.Memory sure kind = absurd kind
@@ -138,7 +136,6 @@ module _ (rows : List Row) (changes : List Change) (a b : Seen) where
   halted_gets (commit.Absent p n) made = quiet_gets [] a b (commit.Absent p n) tt (λ is. let no : ⊥ = cc in no) made
   halted_gets (commit.IdFull p) made = quiet_gets [] a b (commit.IdFull p) tt (λ is. let no : ⊥ = cc in no) made
   halted_gets (commit.Full n) made = quiet_gets [] a b (commit.Full n) tt (λ is. let no : ⊥ = cc in no) made
-  halted_gets commit.Unsupported made = quiet_gets [] a b commit.Unsupported tt (λ is. let no : ⊥ = cc in no) made
   halted_gets commit.ClockEnd made = quiet_gets [] a b commit.ClockEnd tt (λ is. let no : ⊥ = cc in no) made
 
   pub looks_only : {A : Type 0} (r : Result A CommitErr) → RunsLooking rows changes a b r → OnlyGets a b (IsErrOf r commit.Fault)

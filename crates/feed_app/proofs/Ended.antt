@@ -37,7 +37,6 @@ module _ {B : Type 0} (m : Members B) (before after : Sight B) (reach : Reach) (
   commit_explains changes now (Err (error.Already place number)) rose is = tt
   commit_explains changes now (Err (error.IdFull place)) rose is = tt
   commit_explains changes now (Err (error.Full items)) rose is = tt
-  commit_explains changes now (Err error.Unsupported) rose is = tt
   commit_explains changes now (Err error.ClockEnd) rose is = tt
 
   -- changes that were asked for

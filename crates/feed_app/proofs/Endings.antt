@@ -9,7 +9,7 @@ use Rattle.catalog_doc.specs.Verdict.{verdict}
 use Rattle.catalog_doc.specs.declared.change.Change.{Change}
 use Rattle.catalog_doc.specs.declared.change.Committed.{Committed}
 use Rattle.catalog_doc.specs.declared.error.CommitErr.{CommitErr}
-use Rattle.catalog_doc.specs.declared.error.CommitErr.TheVariants.{Empty, TooMany, Twice, Exists, Absent, Already, IdFull, Full, Unsupported, ClockEnd, Fault, Damaged, Memory}
+use Rattle.catalog_doc.specs.declared.error.CommitErr.TheVariants.{Empty, TooMany, Twice, Exists, Absent, Already, IdFull, Full, ClockEnd, Fault, Damaged, Memory}
 use Rattle.catalog_opening.specs.Openings.{IsStoreOf}
 use Rattle.catalog_core.specs.Committing.{Commits, MayBeCommitted, with_made, WithOrWithout}
 use Rattle.catalog_core.specs.Opened.{IsOpenFor, Opened}
@@ -36,7 +36,6 @@ fault_by (Absent place number) is = cc is
 fault_by (Already place number) is = cc is
 fault_by (IdFull place) is = cc is
 fault_by (Full items) is = cc is
-fault_by Unsupported is = cc is
 fault_by ClockEnd is = cc is
 
 abbrev told : CommitErr → Result Committed CommitErr
@@ -60,7 +59,6 @@ commits_as cs changes now (Err (Absent place number)) P Q to (refused, p) = (ref
 commits_as cs changes now (Err (Already place number)) P Q to (refused, p) = (refused, to cs p)
 commits_as cs changes now (Err (IdFull place)) P Q to (refused, p) = (refused, to cs p)
 commits_as cs changes now (Err (Full items)) P Q to (refused, p) = (refused, to cs p)
-commits_as cs changes now (Err Unsupported) P Q to (refused, p) = (refused, to cs p)
 commits_as cs changes now (Err ClockEnd) P Q to (refused, p) = (refused, to cs p)
 
 -- whatever was answered, the catalog is there with the commit or without it
@@ -77,7 +75,6 @@ with_or_without cs changes now (Err (Absent place number)) P (refused, p) = inl 
 with_or_without cs changes now (Err (Already place number)) P (refused, p) = inl p
 with_or_without cs changes now (Err (IdFull place)) P (refused, p) = inl p
 with_or_without cs changes now (Err (Full items)) P (refused, p) = inl p
-with_or_without cs changes now (Err Unsupported) P (refused, p) = inl p
 with_or_without cs changes now (Err ClockEnd) P (refused, p) = inl p
 
 -- a commit of an open catalog, behind its opening
@@ -111,7 +108,6 @@ reply_done (Err (Absent place number)) is = absurd (omega (arith, is))
 reply_done (Err (Already place number)) is = absurd (omega (arith, is))
 reply_done (Err (IdFull place)) is = absurd (omega (arith, is))
 reply_done (Err (Full items)) is = absurd (omega (arith, is))
-reply_done (Err Unsupported) is = absurd (omega (arith, is))
 reply_done (Err ClockEnd) is = absurd (omega (arith, is))
 
 module _ (cs : Catalog) (changes : List Change) (now : ℕ) (P : Catalog → Type 0) where
@@ -132,7 +128,6 @@ module _ (cs : Catalog) (changes : List Change) (now : ℕ) (P : Catalog → Typ
   not_refused why (Err (Already place number)) taken is commits = both (Already place number) taken commits.0
   not_refused why (Err (IdFull place)) taken is commits = both (IdFull place) taken commits.0
   not_refused why (Err (Full items)) taken is commits = both (Full items) taken commits.0
-  not_refused why (Err Unsupported) taken is commits = both Unsupported taken commits.0
   not_refused why (Err ClockEnd) taken is commits = both ClockEnd taken commits.0
 
   pub not_damaged : (name : AreaName) (blob : List ℕ) (r : Result Committed CommitErr) → commit_reply r ≡ answer.Damaged name blob → Commits cs changes now r P → ⊥
@@ -148,5 +143,4 @@ module _ (cs : Catalog) (changes : List Change) (now : ℕ) (P : Catalog → Typ
   not_damaged name blob (Err (Already place number)) is commits = cc is
   not_damaged name blob (Err (IdFull place)) is commits = cc is
   not_damaged name blob (Err (Full items)) is commits = cc is
-  not_damaged name blob (Err Unsupported) is commits = cc is
   not_damaged name blob (Err ClockEnd) is commits = cc is

@@ -43,7 +43,6 @@ abbrev pub commit_answer : CommitErr → Answer
 commit_answer commit.Fault = Fault area.Catalog
 commit_answer (commit.Damaged name) = Damaged area.Catalog name
 commit_answer commit.Memory = Memory
-commit_answer commit.Unsupported = Refused UnsupportedCatalog
 commit_answer (commit.Exists place number) = Refused (Commit (refusal.Exists place number))
 commit_answer (commit.Absent place number) = Refused (Commit (refusal.Absent place number))
 commit_answer (commit.Already place number) = Refused (Commit (refusal.Already place number))

@@ -53,7 +53,6 @@ impl Answer {
             CommitErr::Fault => return Answer::Fault(AreaName::Catalog),
             CommitErr::Damaged(name) => return Answer::Damaged(AreaName::Catalog, name),
             CommitErr::Memory => return Answer::Memory,
-            CommitErr::Unsupported => return Answer::Refused(Refusal::UnsupportedCatalog),
             CommitErr::Exists(place, number) => CommitRefusal::Exists { place, number },
             CommitErr::Absent(place, number) => CommitRefusal::Absent { place, number },
             CommitErr::Already(place, number) => CommitRefusal::Already { place, number },
