@@ -21,7 +21,8 @@ use Rattle.catalog_doc.specs.declared.error.CommitErr.TheVariants as commit
 use Rattle.catalog_doc.proofs.Prefixes.{prefix_is_catalog}
 use Rattle.catalog_doc.proofs.Spelling.{all_spell, each_spells}
 use Rattle.catalog_opening.specs.Openings.{IsSettledStoreOf}
-use Rattle.catalog_rows.specs.Kept.{IsKeptOf, Kept, TakesIn}
+use Rattle.catalog_rows.specs.Kept.{HoldsSame, IsKeptOf, TakesIn}
+use Rattle.catalog_rows.proofs.PageHeads.{kept_same}
 use Rattle.catalog_core.specs.Committing.{PutsCommit, RunsPuts}
 use Rattle.catalog_core.specs.Opened.{IsOpenFor, IsReady, IsStoreFor, Keeps, Opened}
 use Rattle.catalog_core.proofs.Frames.{ready_keeps, ready_store}
@@ -71,17 +72,10 @@ module _ {B : Type 0} (o : Opened B) (a b : Seen) (cs : Catalog) (c : Stored) (w
         settled_for n b o.base (cs ++ c ∷ []) at settled whole (takes cs c (ready_keeps o a cs ready) (sym are))
         (after_calls (commit_puts o.base cs c) store.0, done_area made, spells.0, spells.1)
 
-    keeps_old : n.kept ≡ o.kept → IsKeptOf n.kept cs
-    keeps_old same = subst (λ (k : Kept). IsKeptOf k cs) (sym same) (ready_keeps o a cs ready)
+    keeps_old : HoldsSame o.kept n.kept → IsKeptOf n.kept cs
+    keeps_old same = kept_same o.kept n.kept cs same (ready_keeps o a cs ready)
 
-    module _ {A : Type 0} (r : Result A CommitErr) (error : CommitErr) (is : r ≡ Err error) (same : n.kept ≡ o.kept) (settled : n.settled ≡ false) where
-      -- all done, but the rows not taken in
-      pub put_unknown : Makes (map Change (commit_puts o.base cs c)) a b → PutsCommit cs c r (IsOpenFor n b)
-      put_unknown made =
-          let spells = all_spell store.0 o.base cs c whole store.2 store.3 in
-          subst (λ (x : Result A CommitErr). PutsCommit cs c x (IsOpenFor n b)) (sym is)
-          (inr (unsettled_for n b o.base (cs ++ c ∷ []) (after_calls (commit_puts o.base cs c) store.0) at settled whole (inr (cs, c, refl, keeps_old same)) (done_area made) spells.0))
-
+    module _ {A : Type 0} (r : Result A CommitErr) (error : CommitErr) (is : r ≡ Err error) (same : HoldsSame o.kept n.kept) (settled : n.settled ≡ false) where
       -- one not done
       pub put_stopped : (failure : BlobErr) → StopsAt (map Change (commit_puts o.base cs c)) failure a b → PutsCommit cs c r (IsOpenFor n b)
       put_stopped failure stops =

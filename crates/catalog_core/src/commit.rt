@@ -23,8 +23,8 @@ use pkg_meta::Ticks;
 use std::alloc::Global;
 
 impl<B: Blobs> Catalog<B> {
-    // Makes the puts of a commit, once there is memory for its rows. Until they are all done and the rows are taken in,
-    // the catalog isn't settled.
+    // Makes the puts of a commit, once there is memory for its rows; behind the puts none is taken. Until they are all
+    // done and the rows are taken in, the catalog isn't settled.
     fn put(&mut self, alloc: Global, plan: CommitPlan) -> Result<Committed, CommitErr>
         requires some { 0 < length plan.rows }
         requires few { length plan.rows ≤ 64 }
@@ -38,10 +38,10 @@ impl<B: Blobs> Catalog<B> {
         ensures settled { OnOk result (self.new.settled ≡ true) }
         ensures base { self.new.base ≡ self.old.base }
     {
-        let rows = self.rows.reserve(alloc, plan.rows)?;
+        self.rows.reserve(alloc, plan.rows)?;
         self.settled = false;
         call_all(alloc, &mut self.area, plan.calls.as_slice())?;
-        self.rows.take_in(rows)?;
+        self.rows.take_in();
         self.settled = true;
         Ok(Committed {
             number: plan.number,

@@ -12,7 +12,7 @@ use Rattle.catalog_doc.specs.declared.row.Row.{Row}
 use Rattle.catalog_doc.proofs.LookUps.{fill-append}
 use Rattle.catalog_doc.proofs.NewDocs.{few_pages}
 use Rattle.catalog_doc.proofs.OnePage.{length-rows_from}
-use Rattle.catalog_rows.specs.Kept.{add_head, joined, joined_if, Kept, longer, TakesIn}
+use Rattle.catalog_rows.specs.Kept.{add_head, HoldsSame, IsKeptOf, joined, joined_if, Kept, longer, TakesIn}
 
 pub last_number-behind : (rows : List Row) (row : Row) (more : List Row) → last_number (rows ++ row ∷ more) ≡ last_number (row ∷ more)
 last_number-behind [] row more = refl
@@ -66,6 +66,13 @@ taken_in old new rows some behind heads cs c kept are = record {
   pages = heads_pushed cs c (subst (λ (l : List Row). 0 < length l) (sym are) some)
       ∙ ap₂ (λ (pages : List PageHead) (l : List Row). add_head pages (head_of l)) kept.pages are ∙ sym heads;
 }
+
+-- what is reserved doesn't matter
+pub kept_same : (old new : Kept) (cs : Catalog) → HoldsSame old new → IsKeptOf old cs → IsKeptOf new cs
+kept_same old new cs same kept = record { rows = kept.rows ∙ sym same.rows; pages = kept.pages ∙ sym same.pages }
+
+pub takes_same : (old held new : Kept) (rows : List Row) → HoldsSame old held → TakesIn held rows new → TakesIn old rows new
+takes_same old held new rows same takes cs c kept are = takes cs c (kept_same old held cs same kept) are
 
 suc_less : (n : ℕ) → suc (suc n) - 1 ≡ suc (suc n - 1)
 suc_less n = omega arith

@@ -1,15 +1,16 @@
 -- The tables of the last rows and of the live versions, with a row more.
 use Rattle.std.proofs.Common.{◌≡◌, ◌<◌, ◌+◌, ◌-◌, ◌^◌, ◌==◌, ℕ, suc, List, [], ◌∷◌, ◌++◌, length, Bool, true, false, not, ◌&&◌, Option, Some, None, option_map, slice_get, refl, sym, ◌∙◌, ap, ap₂, subst, arith}
-use Rattle.std.specs.Prelude.{if◌then◌else◌, String}
-use Rattle.std.specs.HashMap.{HashMap, get_by_text, IsUnchanged, UpdatesBy}
+use Rattle.std.specs.Prelude.{if◌then◌else◌, String, IsSome, is_some}
+use Rattle.std.specs.BTreeMap.{BTreeMap, get_by_text, UpdatesBy}
 use Rattle.std.specs.List.{list_all}
-use Rattle.std.specs.Map.{lookup}
 use Rattle.std.specs.Option.{option_and_then, option_or, unwrap_or}
+use Rattle.std.specs.Cmp.Lexicographic.{slice_cmp}
+use Rattle.std.specs.Ordering.{nat_cmp}
 use Rattle.std.specs.Str.{bytes_eq}
-use Rattle.std.specs.String.{string_bytes, string_eq}
+use Rattle.std.specs.String.{string_bytes, string_cmp}
 use Rattle.std.proofs.Math.Bool.{and_assoc}
 use Rattle.std.proofs.lemmas.Bool.Decides.{nat_tests}
-use Rattle.std.proofs.lemmas.Map.Text.{hash_map_updates_text}
+use Rattle.std.proofs.lemmas.Map.Text.{btree_map_updates_text}
 use Rattle.nuget_version.specs.Printed.{key_text}
 use Rattle.nuget_version.specs.declared.version.Version.{Version}
 use Rattle.package_id.specs.declared.id.PackageId.{PackageId}
@@ -18,7 +19,7 @@ use Rattle.blob_store.proofs.Areas.{bytes_eq-same, bytes_eq-turned}
 use Rattle.catalog_doc.proofs.Spelling.{bytes_eq-true}
 use Rattle.catalog_doc.specs.declared.row.Row.{Row}
 use Rattle.catalog_rows.specs.Last.{is_no_delete, is_of_keys, last_row, live_rows}
-use Rattle.catalog_rows.specs.Latest.{has_name, is_live_at, last_place, version_name}
+use Rattle.catalog_rows.specs.Latest.{has_name, is_live_at, last_place, place_in, version_name}
 use Rattle.catalog_rows.proofs.LastRows.{live_rows-few, live_rows-push, one}
 
 abbrev HasNoSlash : List ℕ → Type 0
@@ -98,14 +99,20 @@ last_place-push test (x ∷ rows) row =
     ap (λ (place : Option ℕ). option_or (option_map suc place) (if test x then Some 0 else None)) (last_place-push test rows row)
     ∙ placed_more (test row) (test x) (length rows) (last_place test rows)
 
+own_place : (own : Bool) (at : ℕ) (before : Option (Option ℕ))
+    → unwrap_or (if own then Some (Some at) else before) None ≡ (if own then Some at else unwrap_or before None)
+own_place true at before = refl
+own_place false at before = refl
+
 -- the table of places, with one row more
-pub places_more : {Y S : Type 0} (rows : List Row) (row : Row) (name : String Y) (at : ℕ) (old new : HashMap (String Y) ℕ S)
-    → ((asked : List ℕ) → get_by_text old asked ≡ last_place (has_name asked) rows)
-    → string_bytes name ≡ version_name row.id.key (key_text row.version) → at ≡ length rows → UpdatesBy string_eq (string_eq name) old new (Some at)
-    → (asked : List ℕ) → get_by_text new asked ≡ last_place (has_name asked) (rows ++ row ∷ [])
+pub places_more : {Y : Type 0} (rows : List Row) (row : Row) (name : String Y) (at : ℕ) (old new : BTreeMap (String Y) (Option ℕ))
+    → ((asked : List ℕ) → place_in old asked ≡ last_place (has_name asked) rows)
+    → string_bytes name ≡ version_name row.id.key (key_text row.version) → at ≡ length rows → UpdatesBy string_cmp (string_cmp name) old new (Some (Some at))
+    → (asked : List ℕ) → place_in new asked ≡ last_place (has_name asked) (rows ++ row ∷ [])
 places_more rows row name at old new places is here updates = λ asked.
-    hash_map_updates_text (string_bytes name) old new (Some at) updates asked
-    ∙ ap₂ (λ (t : List ℕ) (n : ℕ). if bytes_eq t asked then Some n else get_by_text old asked) is here
+    ap (λ (found : Option (Option ℕ)). unwrap_or found None) (btree_map_updates_text (string_bytes name) old new (Some (Some at)) updates asked)
+    ∙ own_place (bytes_eq (string_bytes name) asked) at (get_by_text old asked)
+    ∙ ap₂ (λ (t : List ℕ) (n : ℕ). if bytes_eq t asked then Some n else place_in old asked) is here
     ∙ ap (λ (place : Option ℕ). if bytes_eq (version_name row.id.key (key_text row.version)) asked then Some (length rows) else place) (places asked)
     ∙ sym (last_place-push (has_name asked) rows row)
 
@@ -121,17 +128,42 @@ same_id false key asked rows row count before own is counted was =
     omega (arith, was, law)
 
 -- the table of live versions, with one row more
-pub live_more : {Y S : Type 0} (rows : List Row) (row : Row) (id : String Y) (count : ℕ) (old new : HashMap (String Y) ℕ S)
+pub live_more : {Y : Type 0} (rows : List Row) (row : Row) (id : String Y) (count : ℕ) (old new : BTreeMap (String Y) ℕ)
     → ((asked : List ℕ) → unwrap_or (get_by_text old asked) 0 ≡ live_rows asked rows) → string_bytes id ≡ row.id.key
-    → count ≡ live_rows row.id.key (rows ++ row ∷ []) → UpdatesBy string_eq (string_eq id) old new (Some count)
+    → count ≡ live_rows row.id.key (rows ++ row ∷ []) → UpdatesBy string_cmp (string_cmp id) old new (Some count)
     → (asked : List ℕ) → unwrap_or (get_by_text new asked) 0 ≡ live_rows asked (rows ++ row ∷ [])
 live_more rows row id count old new live is counted updates = λ asked.
-    ap (λ (found : Option ℕ). unwrap_or found 0) (hash_map_updates_text (string_bytes id) old new (Some count) updates asked)
+    ap (λ (found : Option ℕ). unwrap_or found 0) (btree_map_updates_text (string_bytes id) old new (Some count) updates asked)
     ∙ same_id (bytes_eq (string_bytes id) asked) (string_bytes id) asked rows row count (get_by_text old asked) refl is counted (live asked)
 
--- the tables of the same entries
-pub kept_text : {Y S : Type 0} (old new : HashMap (String Y) ℕ S) → IsUnchanged old new → (asked : List ℕ) → get_by_text new asked ≡ get_by_text old asked
-kept_text old new same asked = ap (λ (es : List _). lookup (λ k. bytes_eq asked (string_bytes k)) es) same
+still_there : {X : Type 0} (own : Bool) (value : X) (before : Option X) → IsSome before → IsSome (if own then Some value else before)
+still_there true value before is = refl
+still_there false value before is = is
+
+-- a key that is put in leaves the others
+pub keys_stay : {X Y : Type 0} (key : List ℕ) (value : X) (old new : BTreeMap (String Y) X)
+    → UpdatesBy string_cmp (λ k. slice_cmp nat_cmp key (string_bytes k)) old new (Some value)
+    → (asked : List ℕ) → IsSome (get_by_text old asked) → IsSome (get_by_text new asked)
+keys_stay key value old new updates asked is =
+    subst (λ (found : Option _). IsSome found) (sym (btree_map_updates_text key old new (Some value) updates asked))
+    (still_there (bytes_eq key asked) value (get_by_text old asked) is)
+
+none_before : {X : Type 0} (own : Bool) (none : X) (before : Option X) → (own ≡ true → before ≡ None)
+    → unwrap_or (if own then Some none else before) none ≡ unwrap_or before none
+none_before true none before is = ap (λ (found : Option _). unwrap_or found none) (sym (is refl))
+none_before false none before is = refl
+
+pub not_some : {X : Type 0} (found : Option X) → is_some found ≡ false → found ≡ None
+not_some None is = refl
+not_some (Some x) is = cc
+
+-- a new key with the value that is told of unknown ones
+pub key_new : {X Y : Type 0} (key : List ℕ) (none : X) (old new : BTreeMap (String Y) X) → get_by_text old key ≡ None
+    → UpdatesBy string_cmp (λ k. slice_cmp nat_cmp key (string_bytes k)) old new (Some none)
+    → (asked : List ℕ) → unwrap_or (get_by_text new asked) none ≡ unwrap_or (get_by_text old asked) none
+key_new {X} key none old new fresh updates asked =
+    ap (λ (found : Option X). unwrap_or found none) (btree_map_updates_text key old new (Some none) updates asked)
+    ∙ none_before (bytes_eq key asked) none (get_by_text old asked) (λ own. ap (get_by_text old) (sym (bytes_eq-true key asked own)) ∙ fresh)
 
 live_gone : (row : Row) (rows : List Row) → live_rows row.id.key (rows ++ row ∷ []) + one (is_no_delete (last_row row.id.key (key_text row.version) rows))
     ≡ live_rows row.id.key rows + one (not row.gone)

@@ -7,10 +7,16 @@ use Rattle.catalog_doc.specs.CatDocs.{all_rows, heads_of, page_room, rows_of}
 use Rattle.catalog_doc.specs.declared.head.PageHead.{PageHead}
 use Rattle.catalog_doc.specs.declared.row.Row.{Row}
 
--- its rows, and the heads of its pages
+-- its rows, and the heads of its pages; and the rows of a commit that is to come, for which memory was taken
 pub record Kept : Type 0 where
   pub rows : List Row
   pub pages : List PageHead
+  pub reserved : List Row
+
+-- the same rows and heads, whatever is reserved
+pub record HoldsSame (old new : Kept) : Type 0 where
+  pub rows : new.rows ≡ old.rows
+  pub pages : new.pages ≡ old.pages
 
 -- they are those of this catalog
 pub record IsKeptOf (kept : Kept) (cs : Catalog) : Type 0 where

@@ -1,15 +1,16 @@
 // Tables by which the last row of a version and the live versions of an id are found.
-ghost use Rattle.std.specs.Prelude.{◌≡◌, ◌≤◌, ◌<◌, ◌+◌, ◌-◌, ◌^◌, ◌++◌, ◌∷◌, [], true, length, drop, take, List, if◌then◌else◌};
-ghost use Rattle.std.specs.Prelude.{unwrap_or, IfOk, IsOk, OnOk, string_bytes};
-ghost use Rattle.indexmap.specs.IndexMap.{spare};
+ghost use Rattle.std.specs.Prelude.{◌≡◌, ◌≤◌, ◌<◌, ◌+◌, ◌-◌, ◌^◌, ◌++◌, ◌∷◌, [], true, length, drop, take, List, if◌then◌else◌, ℕ};
+ghost use Rattle.std.specs.Prelude.{unwrap_or, IfOk, IsOk, IsSome, None, OnOk, string_bytes};
+ghost use Rattle.std.specs.BTreeMap.{get_by_text};
+ghost use Rattle.std.specs.List.{All};
 ghost use Rattle.nuget_version.specs.Printed.{key_text};
 ghost use Rattle.catalog_doc.specs.declared.row.Row.{Row};
-ghost use Rattle.catalog_rows.specs.Latest.{AreNamedFor, IsLatestOf, IsNamedFor, version_name};
+ghost use Rattle.catalog_rows.specs.Latest.{AreNamedFor, IsLatestOf, IsListed, IsNamedFor, version_name};
 
 use catalog_doc::Row;
-use indexmap::IndexMap;
 use pkg_meta::{NoMemory, PackageId, Version};
 use std::alloc::Global;
+use std::collections::BTreeMap;
 
 /// The name of a row's version, and its id's key.
 #[derive(Drop)]
@@ -20,13 +21,13 @@ pub(crate) struct Named {
 
 /// Where the last row of each version stands, and how many live versions each id has.
 ///
-/// The tables hash by indexmap's default, whose seed is fixed, so keys that are chosen for it can make them slow.
+/// Versions and ids can be listed before they have rows, so that their rows are noted without memory.
 #[derive(Drop)]
 pub(crate) struct Latest {
-    // By the name of the version.
-    pub(crate) places: IndexMap<String, usize>,
+    // By the name of the version; it has no place while it has no row.
+    pub(crate) places: BTreeMap<String, Option<usize>>,
     // By the key of the id.
-    pub(crate) live: IndexMap<String, usize>,
+    pub(crate) live: BTreeMap<String, usize>,
 }
 
 // The name of a version: the keys of the id and the version, which have no `/`, with one between them.
@@ -61,17 +62,40 @@ fn count_with(count: usize, live: bool, gone: bool) -> usize
     }
 }
 
+// Lists a key, with `none` where it isn't listed yet.
+fn list_key<V: Drop>(
+    alloc: Global,
+    table: &mut BTreeMap<String, V>,
+    key: &str,
+    none: V,
+) -> Result<(), NoMemory>
+    ensures listed { OnOk result (IsSome (get_by_text table.new key.now)) }
+    ensures keeps { (asked : List ℕ) → IsSome (get_by_text table.old asked) → IsSome (get_by_text table.new asked) }
+    ensures same { (asked : List ℕ) → unwrap_or (get_by_text table.new asked) none ≡ unwrap_or (get_by_text table.old asked) none }
+{
+    if !table.contains_key(key) {
+        table.insert(String::from_str(alloc, key)?, none)?;
+    }
+    Ok(())
+}
+
 impl Latest {
-    ghost use Rattle.std.specs.HashMap.{get_by_text};
-    ghost use Rattle.catalog_rows.specs.Latest.{is_live_at};
+    ghost use Rattle.catalog_rows.specs.Latest.{is_live_at, place_in};
 
     pub(crate) fn new(alloc: Global) -> Self
         ensures { IsLatestOf [] result }
     {
         Latest {
-            places: IndexMap::new(alloc),
-            live: IndexMap::new(alloc),
+            places: BTreeMap::new(alloc),
+            live: BTreeMap::new(alloc),
         }
+    }
+
+    // The place of the last row of the version with this name.
+    fn place_of(&self, name: &str) -> Option<usize>
+        ensures { result ≡ place_in self.now.places name.now }
+    {
+        self.places.get(name).copied().unwrap_or(None)
     }
 
     /// The place of the last row of a version.
@@ -81,10 +105,10 @@ impl Latest {
         id: &PackageId,
         version: &Version,
     ) -> Result<Option<usize>, NoMemory>
-        ensures { IfOk result (λ found. found ≡ get_by_text self.now.places (version_name id.now.key (key_text version.now))) }
+        ensures { IfOk result (λ found. found ≡ place_in self.now.places (version_name id.now.key (key_text version.now))) }
     {
         let name = version_name(alloc, id, version)?;
-        Ok(self.places.get(name.as_str()).copied())
+        Ok(self.place_of(name.as_str()))
     }
 
     /// How many live versions the id with this key has.
@@ -96,9 +120,9 @@ impl Latest {
 
     // Whether the version with this name is live after these rows.
     fn is_live(&self, rows: &[Row], name: &str) -> bool
-        ensures { result ≡ is_live_at rows.now (get_by_text self.now.places name.now) }
+        ensures { result ≡ is_live_at rows.now (place_in self.now.places name.now) }
     {
-        let Some(&at) = self.places.get(name) else {
+        let Some(at) = self.place_of(name) else {
             return false;
         };
         match rows.get(at) {
@@ -107,14 +131,25 @@ impl Latest {
         }
     }
 
-    /// Takes memory for so many rows more.
-    pub(crate) fn reserve(&mut self, more: usize) -> Result<(), NoMemory>
+    // Lists a version and its id.
+    fn list(&mut self, alloc: Global, named: &Named) -> Result<(), NoMemory>
+        ensures listed { OnOk result (IsListed self.new named.now) }
+        ensures keeps { (other : Named) → IsListed self.old other → IsListed self.new other }
         ensures same { (rows : List Row) → IsLatestOf rows self.old → IsLatestOf rows self.new }
-        ensures places { OnOk result (more ≤ spare self.new.places) }
-        ensures live { OnOk result (more ≤ spare self.new.live) }
     {
-        self.places.reserve(more)?;
-        self.live.reserve(more)?;
+        list_key(alloc, &mut self.places, named.version.as_str(), None)?;
+        list_key(alloc, &mut self.live, named.id.as_str(), 0)
+    }
+
+    /// Lists versions and their ids.
+    pub(crate) fn list_all(&mut self, alloc: Global, names: &[Named]) -> Result<(), NoMemory>
+        ensures listed { OnOk result (All (IsListed self.new) names.now) }
+        ensures keeps { (other : Named) → IsListed self.old other → IsListed self.new other }
+        ensures same { (rows : List Row) → IsLatestOf rows self.old → IsLatestOf rows self.new }
+    {
+        for named in names {
+            self.list(alloc, named)?;
+        }
         Ok(())
     }
 
@@ -122,24 +157,22 @@ impl Latest {
     pub(crate) fn note(&mut self, named: Named, earlier: &[Row], row: &Row) -> Result<(), NoMemory>
         requires { IsNamedFor named row.now }
         ensures ok { OnOk result (IsLatestOf earlier.now self.old → IsLatestOf (earlier.now ++ row.now ∷ []) self.new) }
-        ensures succeeds { 0 < spare self.old.places → 0 < spare self.old.live → IsOk result }
-        ensures places { spare self.old.places ≤ spare self.new.places + 1 }
-        ensures live { spare self.old.live ≤ spare self.new.live + 1 }
+        ensures listed { IsListed self.old named → IsOk result }
+        ensures keeps { (other : Named) → IsListed self.old other → IsListed self.new other }
     {
         let was_live = self.is_live(earlier, named.version.as_str());
         let count = self.count(named.id.as_str());
         let count = count_with(count, was_live, row.gone);
-        self.places.insert(named.version, earlier.len())?;
+        self.places.insert(named.version, Some(earlier.len()))?;
         self.live.insert(named.id, count)?;
         Ok(())
     }
 
-    /// Takes in the rows from `first` on, in memory that was taken for them.
+    /// Takes in the rows from `first` on, whose versions and ids are listed.
     pub(crate) fn note_all(&mut self, names: Vec<Named>, rows: &[Row], first: usize)
         requires within { first ≤ length rows.now }
         requires named { AreNamedFor names.items (drop first rows.now) }
-        requires places { length names.items ≤ spare self.old.places }
-        requires live { length names.items ≤ spare self.old.live }
+        requires listed { All (IsListed self.old) names.items }
         ensures { IsLatestOf (take first rows.now) self.old → IsLatestOf rows.now self.new }
     {
         let mut at = first;

@@ -11,5 +11,5 @@ mod shape;
 
 pub use catalog_doc::{PageHead, Row};
 pub use laws::refusals_have_parts;
-pub use rows::{NewRows, Rows};
+pub use rows::Rows;
 pub use shape::shape_refusal;

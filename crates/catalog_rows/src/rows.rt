@@ -1,12 +1,13 @@
 // The rows of an open catalog.
-ghost use Rattle.std.specs.Prelude.{◌≡◌, ◌≤◌, ◌<◌, ◌++◌, [], length, option_map, slice_get, IfOk, OnOk, OnErr};
+ghost use Rattle.std.specs.Prelude.{◌≡◌, ◌≤◌, ◌<◌, ◌+◌, ◌++◌, [], length, option_map, slice_get, IfOk, OnOk, OnErr};
 ghost use Rattle.std.specs.Option.{option_copied};
+ghost use Rattle.std.specs.Vec.{vec_capacity, vec_len};
 ghost use Rattle.nuget_version.specs.Printed.{key_text};
 ghost use Rattle.pkg_meta.specs.Catalog.{Catalog};
 ghost use Rattle.pkg_meta.specs.Lawful.{all_placed, last_of};
 ghost use Rattle.catalog_doc.specs.CatDocs.{all_rows, last_page, pages_of};
 ghost use Rattle.catalog_doc.specs.Catalogs.{all_items, live_count};
-ghost use Rattle.catalog_rows.specs.Kept.{IsKeptOf, TakesIn};
+ghost use Rattle.catalog_rows.specs.Kept.{HoldsSame, IsKeptOf, TakesIn};
 ghost use Rattle.catalog_rows.specs.Last.{last_row, live_rows, row_of};
 ghost use Rattle.catalog_rows.specs.Latest.{IsLatestOf, AreNamedFor};
 
@@ -17,45 +18,38 @@ use pkg_meta::{Many, NoMemory, PackageId, Version};
 use std::alloc::Global;
 use std::marker::Model;
 
+/// The rows of a commit, and their names.
+#[derive(Drop)]
+pub(crate) struct NewRows {
+    pub(crate) rows: Vec<Row>,
+    pub(crate) names: Vec<Named>,
+}
+
 /// The rows of a catalog, and the heads of its pages. The last row of a version, and how many live versions
-/// an id has, are found without a look through all rows.
+/// an id has, are found without a look through all rows. Beside them the rows of a commit can be reserved,
+/// which are taken in later without memory.
 #[derive(Drop)]
 pub struct Rows {
     rows: Vec<Row>,
     pages: Vec<PageHead>,
     latest: Latest,
+    reserved: Option<NewRows>,
 }
 
 impl Model for Rows {
+    ghost use Rattle.std.specs.Prelude.{◌≤◌, ◌<◌, ◌+◌, IfSome};
+    ghost use Rattle.std.specs.Vec.{vec_capacity, vec_len};
     ghost use Rattle.catalog_rows.specs.Kept.{Kept};
 
     ghost Value = { Kept };
 
-    ghost use Rattle.catalog_rows.specs.Latest.{IsLatestOf};
+    ghost use Rattle.catalog_rows.specs.Latest.{AreReady, IsLatestOf, rows_in};
 
-    ghost view = { λ r. record { rows = r.rows.items; pages = r.pages.items } };
+    ghost view = { λ r. record { rows = r.rows.items; pages = r.pages.items; reserved = rows_in r.reserved } };
 
-    ghost invariant = { λ r. IsLatestOf r.rows.items r.latest };
-}
-
-/// The rows of a commit, for which memory was taken.
-#[derive(Drop)]
-pub struct NewRows {
-    rows: Vec<Row>,
-    names: Vec<Named>,
-}
-
-impl Model for NewRows {
-    ghost use Rattle.std.specs.Prelude.{List};
-    ghost use Rattle.catalog_doc.specs.declared.row.Row.{Row};
-
-    ghost Value = { List Row };
-
-    ghost use Rattle.catalog_rows.specs.Latest.{AreNamedFor};
-
-    ghost view = { λ new. new.rows.items };
-
-    ghost invariant = { λ new. AreNamedFor new.names.items new.rows.items };
+    // The tables tell of the rows, and all memory that the reserved ones need is there.
+    ghost invariant = { λ r. IsLatestOf r.rows.items r.latest × IfSome r.reserved (λ new. AreReady r.latest new
+        × (vec_len r.rows + vec_len new.rows ≤ vec_capacity r.rows) × (vec_len r.pages < vec_capacity r.pages)) };
 }
 
 fn names_of(alloc: Global, rows: &[Row]) -> Result<Vec<Named>, NoMemory>
@@ -85,6 +79,18 @@ fn row_at(rows: &[Row], at: usize) -> Option<&Row>
     rows.get(at)
 }
 
+// Adds rows behind others, which have memory for them.
+fn append(rows: &mut Vec<Row>, more: Vec<Row>)
+    requires room { vec_len rows.old + vec_len more ≤ vec_capacity rows.old }
+    ensures { rows.new.items ≡ rows.old.items ++ more.items }
+{
+    let mut more = more;
+    match rows.append(&mut more) {
+        Ok(()) => {}
+        Err(_) => unreachable!(),
+    }
+}
+
 impl Rows {
     pub fn new(alloc: Global) -> Self
         ensures rows { result.rows ≡ [] }
@@ -94,6 +100,7 @@ impl Rows {
             rows: Vec::new(alloc),
             pages: Vec::new(alloc),
             latest: Latest::new(alloc),
+            reserved: None,
         }
     }
 
@@ -106,6 +113,7 @@ impl Rows {
             rows: rows.into_vec(),
             pages: pages.into_vec(),
             latest,
+            reserved: None,
         })
     }
 
@@ -163,37 +171,36 @@ impl Rows {
         self.latest.count(id.key.as_str())
     }
 
-    /// Takes the memory that the rows of a commit need here. What is kept stays.
-    pub fn reserve(&mut self, alloc: Global, rows: Many<Row>) -> Result<NewRows, NoMemory>
-        ensures rows { IfOk result (λ new. new ≡ rows) }
-        ensures same { self.new ≡ self.old }
+    /// Takes the memory that the rows of a commit need here, and reserves them.
+    pub fn reserve(&mut self, alloc: Global, rows: Many<Row>) -> Result<(), NoMemory>
+        ensures same { HoldsSame self.old self.new }
+        ensures reserved { OnOk result (self.new.reserved ≡ rows) }
+        ensures err { OnErr result (self.new ≡ self.old) }
     {
         let names = names_of(alloc, rows.as_slice())?;
-        self.latest.reserve(rows.len())?;
+        self.latest.list_all(alloc, names.as_slice())?;
         self.pages.reserve(1)?;
         self.rows.reserve(rows.len())?;
         let rows = rows.into_vec();
-        Ok(NewRows { rows, names })
+        self.reserved = Some(NewRows { rows, names });
+        Ok(())
     }
 
-    /// Takes in the rows of a commit, in the memory that was taken for them. Without memory all stays.
-    pub fn take_in(&mut self, new: NewRows) -> Result<(), NoMemory>
-        requires some { 0 < length new }
-        requires few { length new ≤ 64 }
-        ensures rows { OnOk result (self.new.rows ≡ self.old.rows ++ new) }
-        ensures catalog { OnOk result (TakesIn self.old new self.new) }
-        ensures err { OnErr result (self.new ≡ self.old) }
+    /// Takes in the reserved rows of a commit. It takes no memory.
+    pub fn take_in(&mut self)
+        requires some { 0 < length self.old.reserved }
+        requires few { length self.old.reserved ≤ 64 }
+        ensures rows { self.new.rows ≡ self.old.rows ++ self.old.reserved }
+        ensures catalog { TakesIn self.old self.old.reserved self.new }
     {
-        let NewRows { rows, names } = new;
-        self.latest.reserve(rows.len())?;
-        self.pages.reserve(1)?;
+        let Some(NewRows { rows, names }) = self.reserved.take() else {
+            unreachable!()
+        };
         let first = self.rows.len();
         let head = head_of(rows.as_slice());
-        let mut rows = rows;
-        self.rows.append(&mut rows)?;
+        append(&mut self.rows, rows);
         self.latest.note_all(names, self.rows.as_slice(), first);
         add_head(&mut self.pages, &head);
-        Ok(())
     }
 
     /// Takes in the rows of a commit. Without memory all stays.
@@ -204,7 +211,8 @@ impl Rows {
         ensures catalog { OnOk result (TakesIn self.old rows self.new) }
         ensures err { OnErr result (self.new ≡ self.old) }
     {
-        let new = self.reserve(alloc, rows)?;
-        self.take_in(new)
+        self.reserve(alloc, rows)?;
+        self.take_in();
+        Ok(())
     }
 }

@@ -1,6 +1,10 @@
-use Rattle.std.proofs.Common.{◌∙◌, ap, refl, length, ◌<◌, ◌-◌, ◌^◌, List, ℕ, arith}
+use Rattle.std.proofs.Common.{◌∙◌, ap, refl, subst, sym, length, ◌<◌, ◌-◌, ◌^◌, List, ℕ, Some, arith}
+use Rattle.std.specs.Prelude.{IsSome, string_bytes}
+use Rattle.std.specs.BTreeMap.{is_at}
+use Rattle.std.specs.Map.{lookup}
+use Rattle.std.proofs.lemmas.Map.Text.{text_cmp}
 use Rattle.catalog_rows.specs.Last.{live_rows}
-use Rattle.catalog_rows.proofs.Tables.{count_is, live_by_place, live_more, places_more}
+use Rattle.catalog_rows.proofs.Tables.{count_is, keys_stay, live_by_place, live_more, places_more}
 use Rattle.catalog_rows.proofs.latest.Latest.note.Goals as goal
 
 pub returns-clause-ok : goal.returns-clause-ok
@@ -17,3 +21,15 @@ returns-clause-ok c = λ latest.
           fits c.count_with-count.ensures)
           c.in_ok-insert-2.ensures.updates;
     }
+
+pub returns-in_err-insert-2-clause-keeps : goal.returns-in_err-insert-2-clause-keeps
+returns-in_err-insert-2-clause-keeps c = λ other listed. record {
+  version = keys_stay (string_bytes c.args.named.version) (Some (length c.args.earlier.now)) c.args.self.now.places c.insert.new.self c.in_ok-insert.ensures.updates (string_bytes other.version) listed.version;
+  id = subst (λ (es : List _). IsSome (lookup (is_at (text_cmp (string_bytes other.id))) es)) (sym c.in_err-insert-2.ensures.err) listed.id;
+}
+
+pub returns-clause-keeps : goal.returns-clause-keeps
+returns-clause-keeps c = λ other listed. record {
+  version = keys_stay (string_bytes c.args.named.version) (Some (length c.args.earlier.now)) c.args.self.now.places c.insert.new.self c.in_ok-insert.ensures.updates (string_bytes other.version) listed.version;
+  id = keys_stay (string_bytes c.args.named.id) c.count_with-count.result c.args.self.now.live c.insert-2.new.self c.in_ok-insert-2.ensures.updates (string_bytes other.id) listed.id;
+}

@@ -1,6 +1,6 @@
 use Rattle.std.proofs.Common.{◌≡◌, ◌≤◌, ◌+◌, length, take}
-use Rattle.indexmap.specs.IndexMap.{spare}
-use Rattle.catalog_rows.specs.Latest.{IsLatestOf}
+use Rattle.std.specs.List.{All}
+use Rattle.catalog_rows.specs.Latest.{IsLatestOf, IsListed}
 use Rattle.catalog_rows.proofs.latest.Latest.note_all.Given as goal
 
 abbrev pub invariant-loop-named : goal.invariant-loop-named
@@ -9,6 +9,5 @@ invariant-loop-named l = record {
   finite : (goal.iterator-loop-named).is_finite l.named-iterator;
   at : l.at ≡ l.fn.first + length l.yielded;
   latest : IsLatestOf (take l.fn.first l.rows) l.fn.self → IsLatestOf (take l.at l.rows) l.self;
-  places : length l.fn.names.items ≤ spare l.self.places + length l.yielded;
-  live : length l.fn.names.items ≤ spare l.self.live + length l.yielded;
+  listed : All (IsListed l.self) l.fn.names.items;
 }

@@ -16,7 +16,7 @@ returns-in-Some-clause-row c =
     let version = c.args.version.now in
     c.row_at.ensures
     ∙ ap (λ (l : List Row). slice_get l c.in-Some.at) c.as_slice.ensures.value
-    ∙ ap (option_and_then (slice_get rows)) (sym c.in-Some.is ∙ c.in_ok-at.ensures ∙ c.self.invariant.places (version_name id.key (key_text version)))
+    ∙ ap (option_and_then (slice_get rows)) (sym c.in-Some.is ∙ c.in_ok-at.ensures ∙ c.self.invariant.0.places (version_name id.key (key_text version)))
     ∙ row_there id version rows
     ∙ ap (λ (k : Kept). last_row id.key (key_text version) k.rows) c.self.view_is
 
@@ -31,7 +31,7 @@ returns-in-None-clause-row c =
     let rows = c.self.inside.rows.items in
     let id = c.args.id.now in
     let version = c.args.version.now in
-    ap (option_and_then (slice_get rows)) (sym c.in-None.is ∙ c.in_ok-at.ensures ∙ c.self.invariant.places (version_name id.key (key_text version)))
+    ap (option_and_then (slice_get rows)) (sym c.in-None.is ∙ c.in_ok-at.ensures ∙ c.self.invariant.0.places (version_name id.key (key_text version)))
     ∙ row_there id version rows
     ∙ ap (λ (k : Kept). last_row id.key (key_text version) k.rows) c.self.view_is
 
