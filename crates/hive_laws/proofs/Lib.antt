@@ -1,0 +1,13 @@
+pub mod AreaRounds
+pub mod AreaSteps
+pub mod AreaTells
+pub mod EveryHive
+pub mod Fronts
+pub mod Listed
+pub mod Looks
+pub mod More
+pub mod MoreArea
+pub mod OneId
+pub mod OnePass
+pub mod PassValues
+pub mod StateNames

@@ -1,0 +1,5 @@
+pub mod Areas
+pub mod FoldLaws
+pub mod Plans
+pub mod Rounds
+pub mod Steps
