@@ -1,34 +1,30 @@
 -- What passes and the cursor's put do to a hive's area.
-use Rattle.std.proofs.Common.{◌≡◌, ◌≢◌, ◌⊎◌, inl, inr, ⊎_elim, ◌<◌, ◌≤◌, ◌+◌, ℕ, zero, suc, List, [], ◌∷◌, ◌++◌, length, map, take, Bool, false, Option, None, Some, refl, sym, ◌∙◌, ap, subst, arith}
+use Rattle.std.proofs.Common.{◌≡◌, ◌≢◌, inl, inr, ⊎_elim, ◌<◌, ◌≤◌, ℕ, List, [], ◌∷◌, length, take, Option, None, Some, refl, sym, ◌∙◌, subst, arith}
 use Rattle.std.proofs.lemmas.Bool.{cases_lt}
 use Rattle.std.proofs.lemmas.List.{take_all, take-map}
 use Rattle.std.specs.Cmp.Lexicographic.{slice_cmp}
 use Rattle.std.specs.FinMap.{empty, get, get-empty}
 use Rattle.std.specs.Ordering.{nat_cmp}
-use Rattle.std.specs.Prelude.{Contains, IfSome, IsSome, option_map}
-use Rattle.std.specs.List.{slice_get}
+use Rattle.std.specs.Prelude.{Contains}
 use Rattle.blob_store.specs.Area.{Area, with_blob}
 use Rattle.blob_store.specs.Runs.{after_calls}
 use Rattle.blob_store.specs.declared.call.Call.{Call}
 use Rattle.blob_store.proofs.Areas.{get_put_other, get_put_same}
 use Rattle.pkg_meta.specs.Catalog.{Catalog}
-use Rattle.pkg_meta.specs.declared.commit.Commit.{Commit}
-use Rattle.pkg_meta.specs.declared.commit.Stored.{Stored}
 use Rattle.pkg_meta.specs.declared.state.StateDoc.{StateDoc}
-use Rattle.cursor_doc.specs.Cursor.{cursor_name, cursor_text}
-use Rattle.hive_state.specs.Reading.{IsStateValue}
-use Rattle.hive_state.specs.State.{state_name, state_text}
+use Rattle.cursor_doc.specs.Cursor.{cursor_name}
+use Rattle.hive_state.specs.State.{state_name}
 use Rattle.fold_core.specs.Docs.{owner}
 use Rattle.fold_core.specs.Folds.{Clean, Fold, Look, Settled, touched_by}
-use Rattle.fold_core.specs.Items.{commits_of, stamp_at, stamp_in}
-use Rattle.fold_core.specs.Sound.{IsAtMost, IsSoundHive, IsSoundId}
+use Rattle.fold_core.specs.Items.{commits_of}
+use Rattle.fold_core.specs.Sound.{IsAtMost, IsSoundId}
 use Rattle.fold_core.proofs.Touches.{touched_within}
-use Rattle.hive_laws.specs.Areas.{IsHiveArea, IsSettledArea, IsSoundArea, SettledArea, SoundArea, cursor_of}
+use Rattle.hive_laws.specs.Areas.{IsSettledArea, IsSoundArea, SettledArea, SoundArea, cursor_of}
 use Rattle.hive_laws.specs.FoldLaws.{FoldLaws}
-use Rattle.hive_laws.specs.Plans.{IsPassPlan, PassPlan, pass_steps}
+use Rattle.hive_laws.specs.Plans.{PassPlan, pass_steps}
 use Rattle.hive_laws.specs.Rounds.{AreDue, AreLed, ChangesOneId, HaveItems, IsAreaPlan, IsLed, IsLeft, IsOnTheWay, IsPartlyPassed, IsPassed, IsUpToDate, call_of, plan_calls}
 use Rattle.hive_laws.specs.Steps.{AreAllowed, KeptOfId, Step, after_steps, with_found}
-use Rattle.hive_laws.proofs.AreaSteps.{AreOwn, HaveValues, others_same, own_front, own_steps, steps_agree, steps_change, steps_sound, values_front}
+use Rattle.hive_laws.proofs.AreaSteps.{AreOwn, others_same, own_front, own_steps, steps_agree, steps_change, steps_sound, values_front}
 use Rattle.hive_laws.proofs.AreaTells.{stored_is}
 use Rattle.hive_laws.proofs.Listed.{first, later, nothing_in, split}
 use Rattle.hive_laws.proofs.Looks.{decide, is_some_by, no_some, with_found_here, with_found_other}
@@ -140,7 +136,7 @@ module _ (f : Fold) (cs : Catalog) (laws : FoldLaws f cs) (c k : ℕ) (reached :
   still_one key states m mid led j clean = ⊎_elim
       (λ e. subst (λ (x : List ℕ). Clean f cs x k (led.now x) (get mid)) (sym e) led.clean)
       (λ o. subst (λ (s : Option StateDoc). Clean f cs j k s (get mid)) (sym (led.others j o))
-          (carry_clean f cs laws j (get m) (get mid) (others_same key j m mid led.changes o) k (states j) clean)) (decide j key)
+      (carry_clean f cs laws j (get m) (get mid) (others_same key j m mid led.changes o) k (states j) clean)) (decide j key)
 
   pub led_all : (keys : List (List ℕ)) (states : Look StateDoc) (m new : Area) → IsSoundArea f cs c states m
       → ((key : List ℕ) → Contains keys key → c < touched_by cs key k) → AreLed f cs k keys m new → AllLed f cs c k keys states m new
@@ -163,8 +159,11 @@ module _ (f : Fold) (cs : Catalog) (laws : FoldLaws f cs) (c k : ℕ) (reached :
   partly_sound : (key : List ℕ) (states : Look StateDoc) (m left : Area) → IsSoundArea f cs c states m → c < touched_by cs key k → IsPartlyPassed f cs key k m left → SoundArea f cs c left
   partly_sound key states m left area item part =
       let is : states key ≡ part.stored = stored_is cs c states m area.area key part.stored part.is_stored.value part.is_stored.held in
-      subst (λ (a : Area). SoundArea f cs c a) (sym part.calls.2) (_, prefix_sound f cs laws c k key states m part.plan area item reached
-      (subst (λ (o : Option StateDoc). IsAreaPlan f cs key k o m part.plan) (sym is) part.is_plan) part.calls.0)
+      subst (λ (a : Area). SoundArea f cs c a) (sym part.calls.2) (
+        _,
+        prefix_sound f cs laws c k key states m part.plan area item reached
+            (subst (λ (o : Option StateDoc). IsAreaPlan f cs key k o m part.plan) (sym is) part.is_plan) part.calls.0,
+      )
 
   pub way_sound : (keys : List (List ℕ)) (states : Look StateDoc) (m left : Area) → IsSoundArea f cs c states m → HaveItems cs c k keys → IsOnTheWay f cs k keys m left → SoundArea f cs c left
   way_sound [] states m left area items same = subst (λ (a : Area). SoundArea f cs c a) (sym same) (states, area)
@@ -218,30 +217,38 @@ module _ (f : Fold) (cs : Catalog) (laws : FoldLaws f cs) where
   pub round_settles : (c : ℕ) (keys : List (List ℕ)) (m new : Area) → SoundArea f cs c m → AreDue cs c (length cs) keys → AreLed f cs (length cs) keys m new
       → (bytes : List ℕ) → cursor_of cs (length cs) ≡ Some bytes → SettledArea f cs (length cs) (with_blob cursor_name bytes new)
   round_settles c keys m new sound due led bytes is =
-      let all = led_all f cs laws c (length cs) (omega arith) keys sound.0 m new sound.1 due.some led in
-      (all.now, cursor_settles f cs laws c all.now new all.area bytes is (λ key. ⊎_elim (λ item. all.clean key (due.all key item))
-          (λ few. idle_there f cs laws c all.now new all.area key few) (cases_lt c (touched_by cs key (length cs)))))
+      let all = led_all f cs laws c (length cs) (omega arith) keys sound.0 m new sound.1 due.some led in (
+        all.now,
+        cursor_settles f cs laws c all.now new all.area bytes is (λ key. ⊎_elim (λ item. all.clean key (due.all key item))
+            (λ few. idle_there f cs laws c all.now new all.area key few) (cases_lt c (touched_by cs key (length cs)))),
+      )
 
   pub ended : (m : Area) → SoundArea f cs (length cs) m → SettledArea f cs (length cs) m
-  ended m sound = (sound.0, record {
-    area = sound.1.area;
-    sound = sound.1.sound;
-    settled = λ key. idle_there f cs laws (length cs) sound.0 m sound.1 key (touched_within (commits_of cs) key (length cs));
-  })
+  ended m sound = (
+    sound.0,
+    record {
+      area = sound.1.area;
+      sound = sound.1.sound;
+      settled = λ key. idle_there f cs laws (length cs) sound.0 m sound.1 key (touched_within (commits_of cs) key (length cs));
+    },
+  )
 
   nothing_held : (q : List ℕ) → get (empty {X = List ℕ} {R = slice_cmp nat_cmp}) q ≡ None
   nothing_held q = get-empty (slice_cmp nat_cmp) q
 
   pub empty_area : SoundArea f cs 0 empty
-  empty_area = ((λ key. None), record {
-    area = record {
-      cursor = nothing_held cursor_name;
-      held = λ key. nothing_held (state_name key);
-      values = λ key. tt;
-      known = λ q some. absurd (no_some (get empty q) (nothing_held q) some);
-    };
-    sound = record {
-      cursor = omega arith;
-      ids = λ key. carry f cs laws key (λ q. None) (get empty) (λ q own. nothing_held q) 0 None (empty_sound f cs laws key);
-    };
-  })
+  empty_area = (
+    (λ key. None),
+    record {
+      area = record {
+        cursor = nothing_held cursor_name;
+        held = λ key. nothing_held (state_name key);
+        values = λ key. tt;
+        known = λ q some. absurd (no_some (get empty q) (nothing_held q) some);
+      };
+      sound = record {
+        cursor = omega arith;
+        ids = λ key. carry f cs laws key (λ q. None) (get empty) (λ q own. nothing_held q) 0 None (empty_sound f cs laws key);
+      };
+    },
+  )

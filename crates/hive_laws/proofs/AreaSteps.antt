@@ -1,10 +1,9 @@
 -- What the calls of steps do to a hive's area.
-use Rattle.std.proofs.Common.{◌≡◌, ◌≢◌, ◌⊎◌, inl, inr, ⊎_elim, ◌<◌, ◌≤◌, ℕ, zero, suc, List, [], ◌∷◌, ◌++◌, length, map, take, Option, None, Some, refl, sym, ◌∙◌, ap, subst, arith}
-use Rattle.std.specs.Prelude.{IfSome, IsSome, option_map, ⊤}
+use Rattle.std.proofs.Common.{◌≡◌, ◌≢◌, inl, inr, ⊎_elim, ◌<◌, ◌≤◌, ℕ, zero, suc, List, [], ◌∷◌, ◌++◌, length, map, take, Option, None, Some, refl, sym, ◌∙◌, ap, subst}
+use Rattle.std.specs.Prelude.{IfSome, option_map, ⊤}
 use Rattle.std.specs.FinMap.{get}
 use Rattle.blob_store.specs.Area.{Area, changed}
 use Rattle.blob_store.specs.Runs.{after_call, after_calls}
-use Rattle.blob_store.specs.declared.call.Call.{Call}
 use Rattle.blob_store.proofs.Areas.{get_changed_other, get_changed_same}
 use Rattle.pkg_meta.specs.Catalog.{Catalog}
 use Rattle.pkg_meta.specs.declared.state.StateDoc.{StateDoc}
@@ -13,8 +12,8 @@ use Rattle.hive_state.specs.Reading.{IsStateValue}
 use Rattle.hive_state.specs.State.{state_name, state_text}
 use Rattle.fold_core.specs.Docs.{owner}
 use Rattle.fold_core.specs.Folds.{Fold, Look, touched_by}
-use Rattle.fold_core.specs.Sound.{IsSoundHive, IsSoundId}
-use Rattle.hive_laws.specs.Areas.{IsHiveArea, IsHiveName, IsSoundArea, cursor_of}
+use Rattle.fold_core.specs.Sound.{IsSoundId}
+use Rattle.hive_laws.specs.Areas.{IsHiveArea, IsSoundArea}
 use Rattle.hive_laws.specs.FoldLaws.{FoldLaws}
 use Rattle.hive_laws.specs.Rounds.{ChangesOneId, call_of}
 use Rattle.hive_laws.specs.Steps.{AreAllowed, IsAllowed, KeptOfId, Step, PutState, PutDoc, RemoveDoc, after_step, after_steps, with_found}
@@ -111,12 +110,12 @@ module _ (key : List ℕ) where
       cursor = get_changed_other m (state_name key) (Some (state_text s)) cursor_name (no_state_of_cursor key) ∙ area.cursor;
       held = λ j. ⊎_elim
           (λ e. subst (λ (x : List ℕ). get (changed (state_name key) (Some (state_text s)) m) (state_name x) ≡ option_map state_text (with_found key (Some s) states x)) (sym e)
-              (get_changed_same m (state_name key) (Some (state_text s)) ∙ sym (ap (option_map state_text) (with_found_here key (Some s) states))))
+          (get_changed_same m (state_name key) (Some (state_text s)) ∙ sym (ap (option_map state_text) (with_found_here key (Some s) states))))
           (λ o. get_changed_other m (state_name key) (Some (state_text s)) (state_name j) (λ e. o (names_tell j key e)) ∙ area.held j
-              ∙ ap (option_map state_text) (with_found_other key kept.stored states j o ∙ sym (with_found_other key (Some s) states j o))) (decide j key);
+          ∙ ap (option_map state_text) (with_found_other key kept.stored states j o ∙ sym (with_found_other key (Some s) states j o))) (decide j key);
       values = λ j. ⊎_elim
           (λ e. subst (λ (x : List ℕ). IfSome (with_found key (Some s) states x) IsStateValue) (sym e)
-              (subst (λ (o : Option StateDoc). IfSome o IsStateValue) (sym (with_found_here key (Some s) states)) value))
+          (subst (λ (o : Option StateDoc). IfSome o IsStateValue) (sym (with_found_here key (Some s) states)) value))
           (λ o. subst (λ (x : Option StateDoc). IfSome x IsStateValue) (with_found_other key kept.stored states j o ∙ sym (with_found_other key (Some s) states j o)) (area.values j)) (decide j key);
       known = λ q is. ⊎_elim (λ e. inr (inl (key, e)))
           (λ o. area.known q (is_some_by _ _ (sym (get_changed_other m (state_name key) (Some (state_text s)) q o)) is)) (decide q (state_name key));
@@ -161,12 +160,12 @@ module _ (f : Fold) (cs : Catalog) (laws : FoldLaws f cs) (c : ℕ) (key : List 
       cursor = area.sound.cursor;
       ids = λ j. ⊎_elim
           (λ e. subst (λ (x : List ℕ). IsSoundId f cs c x (with_found key (after_steps steps kept_here).stored states x) (get (after_calls (map (call_of key) steps) m))) (sym e)
-              (subst (λ (o : Option StateDoc). IsSoundId f cs c key o (get (after_calls (map (call_of key) steps) m))) (sym (with_found_here key (after_steps steps kept_here).stored states))
-              (carry f cs laws key (after_steps steps kept_here).held (get (after_calls (map (call_of key) steps) m))
-              (λ q mine. steps_agree key steps (states key) m q key mine) c (after_steps steps kept_here).stored sound)))
+          (subst (λ (o : Option StateDoc). IsSoundId f cs c key o (get (after_calls (map (call_of key) steps) m))) (sym (with_found_here key (after_steps steps kept_here).stored states))
+          (carry f cs laws key (after_steps steps kept_here).held (get (after_calls (map (call_of key) steps) m))
+          (λ q mine. steps_agree key steps (states key) m q key mine) c (after_steps steps kept_here).stored sound)))
           (λ o. subst (λ (x : Option StateDoc). IsSoundId f cs c j x (get (after_calls (map (call_of key) steps) m))) (sym (with_found_other key (after_steps steps kept_here).stored states j o))
-              (carry f cs laws j (get m) (get (after_calls (map (call_of key) steps) m))
-              (others_same key j m (after_calls (map (call_of key) steps) m) (steps_change key steps m own) o) c (states j) (area.sound.ids j))) (decide j key);
+          (carry f cs laws j (get m) (get (after_calls (map (call_of key) steps) m))
+          (others_same key j m (after_calls (map (call_of key) steps) m) (steps_change key steps m own) o) c (states j) (area.sound.ids j))) (decide j key);
     };
   }
 

@@ -1,16 +1,14 @@
 -- An area tells its states and its cursor.
-use Rattle.std.proofs.Common.{◌≡◌, ◌≢◌, ◌<◌, ◌≤◌, ◌+◌, ℕ, zero, suc, List, [], ◌∷◌, ◌++◌, length, take, Option, None, Some, refl, sym, ◌∙◌, ap, subst, arith}
+use Rattle.std.proofs.Common.{◌≡◌, ◌≤◌, ℕ, zero, suc, List, [], ◌∷◌, ◌++◌, length, Option, None, Some, refl, sym, ◌∙◌, ap, arith}
 use Rattle.std.specs.FinMap.{get}
 use Rattle.std.specs.Prelude.{IfSome, option_map}
 use Rattle.std.specs.List.{slice_get}
 use Rattle.blob_store.specs.Area.{Area}
 use Rattle.pkg_meta.specs.Catalog.{Catalog}
 use Rattle.pkg_meta.specs.Lawful.{IsLawful, MayFollow}
-use Rattle.pkg_meta.specs.declared.commit.Commit.{Commit}
-use Rattle.pkg_meta.specs.declared.commit.Stored.{Stored}
 use Rattle.pkg_meta.specs.declared.state.StateDoc.{StateDoc}
 use Rattle.catalog_doc.proofs.Numbered.{few_commits}
-use Rattle.cursor_doc.specs.Cursor.{cursor_name, cursor_text}
+use Rattle.cursor_doc.specs.Cursor.{cursor_text}
 use Rattle.cursor_doc.specs.Reading.{IsMarkValue}
 use Rattle.cursor_doc.specs.declared.mark.Mark.{Mark}
 use Rattle.cursor_doc.proofs.Cursors.{cursors_differ}
@@ -49,7 +47,7 @@ cursor_tells cs (suc n) lawful le mark value is =
     let here : Mark = record { number = suc n; stamp = stamp_at (commits_of cs) (suc n) } in
     let few : length cs ≤ 200_000 = few_commits cs lawful in
     ap (λ (x : Mark). x.number) (sym (cursors_differ here mark (record { number = omega arith; stamp = stamps_follow [] cs n lawful.commits }) value
-        (some_inside (cursor_text (suc n) (stamp_at (commits_of cs) (suc n))) (cursor_text mark.number mark.stamp) is)))
+    (some_inside (cursor_text (suc n) (stamp_at (commits_of cs) (suc n))) (cursor_text mark.number mark.stamp) is)))
 
 pub no_cursor_tells : (cs : Catalog) (c : ℕ) → cursor_of cs c ≡ None → c ≡ 0
 no_cursor_tells cs zero is = refl

@@ -1,11 +1,10 @@
 -- The laws of a hive's documents, of those that the trait has.
-use Rattle.std.proofs.Common.{◌≡◌, ◌<◌, ◌≤◌, ℕ, List, [], ◌∷◌, take, Bool, true, false, ◌||◌, Some, None, refl, sym, ap, ◌∙◌, subst, arith}
+use Rattle.std.proofs.Common.{◌≡◌, ◌<◌, ℕ, List, [], ◌∷◌, take, Bool, true, false, ◌||◌, Some, None, refl, sym, ap, ◌∙◌, subst, arith}
 use Rattle.std.proofs.lemmas.List.{take-map}
 use Rattle.std.proofs.lemmas.Bool.{false_from_ne_true}
 use Rattle.std.proofs.lemmas.Slice.Eq.{bytes_eq-Decides}
 use Rattle.std.specs.List.{list_all, list_any}
-use Rattle.std.specs.Prelude.{IsSome, IsTrue, not, ◌==◌}
-use Rattle.std.specs.Str.{bytes_eq}
+use Rattle.std.specs.Prelude.{IsSome, not, ◌==◌}
 use Rattle.package_id.specs.declared.id.PackageId.{PackageId}
 use Rattle.package_id.proofs.Bytes.{IsSegment-key}
 use Rattle.pkg_meta.specs.Catalog.{Catalog}
@@ -18,7 +17,7 @@ use Rattle.pkg_meta.specs.declared.item.Item.{Item}
 use Rattle.fold_core.specs.Docs.{Makes, owner}
 use Rattle.fold_core.specs.Entries.{Keeps}
 use Rattle.fold_core.specs.Folds.{Fold, fold_of, made_at, touched_by}
-use Rattle.fold_core.specs.Items.{commits_of, counted, has_item, is_of, touched}
+use Rattle.fold_core.specs.Items.{commits_of, counted, is_of, touched}
 use Rattle.fold_core.specs.Laws.{AreOfEntries, AreOwned, IsWhole}
 use Rattle.fold_core.proofs.Stays.{docs_none, docs_owned, docs_same}
 use Rattle.hive_laws.specs.FoldLaws.{FoldLaws}

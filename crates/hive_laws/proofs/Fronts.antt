@@ -1,10 +1,8 @@
 -- The first commits of a lawful catalog are lawful, and what they make isn't changed by later ones.
-use Rattle.std.proofs.Common.{◌≡◌, ◌≤◌, ◌+◌, ℕ, zero, suc, List, [], ◌∷◌, ◌++◌, length, take, refl, sym, ap, ◌∙◌, subst, arith}
-use Rattle.std.specs.Prelude.{flat_map}
+use Rattle.std.proofs.Common.{◌≡◌, ◌≤◌, ◌+◌, ℕ, zero, suc, [], ◌∷◌, ◌++◌, length, take, arith}
 use Rattle.std.proofs.lemmas.List.{length-append}
 use Rattle.pkg_meta.specs.Catalog.{Catalog}
-use Rattle.pkg_meta.specs.declared.commit.Stored.{Stored}
-use Rattle.pkg_meta.specs.Lawful.{IsLawful, MayFollow, Placed, all_placed, placed_of}
+use Rattle.pkg_meta.specs.Lawful.{IsLawful, MayFollow, all_placed, placed_of}
 
 fronts_follow : (before cs : Catalog) (k : ℕ) → MayFollow before cs → MayFollow before (take k cs)
 fronts_follow before cs zero follow = tt

@@ -1,5 +1,5 @@
 -- What a list contains, element by element.
-use Rattle.std.proofs.Common.{get_or, ◌≡◌, ◌⊎◌, inl, inr, ◌<◌, ℕ, zero, suc, List, [], ◌∷◌, length, map, refl, sym, ap, ◌∙◌, arith}
+use Rattle.std.proofs.Common.{get_or, ◌≡◌, ◌⊎◌, inl, inr, ◌<◌, ℕ, zero, suc, List, [], ◌∷◌, length, refl, sym, arith}
 use Rattle.std.specs.Prelude.{Contains}
 
 pub first : {X : Type 0} (x : X) (xs : List X) → Contains (x ∷ xs) x

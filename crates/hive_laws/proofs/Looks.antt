@@ -1,8 +1,8 @@
 -- Two names are one or not, and what stands under a name.
-use Rattle.std.proofs.Common.{◌≡◌, ◌≢◌, ◌⊎◌, inl, inr, ◌<◌, ℕ, List, [], Bool, true, false, cond, Option, None, Some, is_some, refl, sym, ◌∙◌, ap, arith}
+use Rattle.std.proofs.Common.{◌≡◌, ◌≢◌, ◌⊎◌, inl, inr, ℕ, List, Bool, true, false, cond, Option, None, Some, is_some, refl, ◌∙◌, ap}
 use Rattle.std.proofs.lemmas.Bool.{false_from_ne_true}
 use Rattle.std.proofs.lemmas.Slice.Eq.{bytes_eq-Decides}
-use Rattle.std.specs.Prelude.{Contains, IsSome}
+use Rattle.std.specs.Prelude.{IsSome}
 use Rattle.std.specs.Str.{bytes_eq}
 use Rattle.fold_core.specs.Events.{IsChanged}
 use Rattle.fold_core.specs.Folds.{Look}
@@ -22,15 +22,8 @@ pub none_or_some : {A : Type 0} (o : Option A) → (o ≡ None) ⊎ IsSome o
 none_or_some None = inl refl
 none_or_some (Some x) = inr refl
 
-pub the_some : {A : Type 0} (o : Option A) → IsSome o → (x : A) × (o ≡ Some x)
-the_some {A = A} None is = absurd (no_some {A = A} None refl is)
-the_some (Some x) is = (x, refl)
-
 pub unclean : (b : Bool) → b ≡ true → b ≡ false → ⊥
 unclean b yes_ no_ = cc
-
-pub none_in : (q : List ℕ) → Contains [] q → ⊥
-none_in q is = let no_ : is.0 < 0 = is.1 in omega arith
 
 -- two names are one or not
 pub decide : (q name : List ℕ) → (q ≡ name) ⊎ (q ≢ name)

@@ -1,5 +1,5 @@
 -- A further commit leaves what holds of a hive.
-use Rattle.std.proofs.Common.{◌≡◌, ◌<◌, ◌≤◌, ◌+◌, ℕ, List, [], ◌∷◌, ◌++◌, length, take, Option, None, Some, refl, sym, ◌∙◌, ap, subst, arith}
+use Rattle.std.proofs.Common.{◌≡◌, ◌<◌, ◌≤◌, ◌+◌, ℕ, List, [], ◌∷◌, ◌++◌, length, take, Option, None, Some, sym, ◌∙◌, ap, arith}
 use Rattle.std.proofs.lemmas.List.{length-append, take-append-le, take-map}
 use Rattle.pkg_meta.specs.Catalog.{Catalog}
 use Rattle.pkg_meta.specs.declared.commit.Commit.{Commit}
@@ -68,33 +68,37 @@ module _ (f : Fold) (cs : Catalog) (x : Stored) where
     state_more c (Some s) held le state =
         let reached : s.at ≤ length cs = state.0.reached in
         let t : touched_by more key s.at ≡ touched_by cs key s.at = touched_more s.at reached in
-        let u : touched_by more key c ≡ touched_by cs key c = touched_more c le in
-        (record {
-          begun = (let b : 0 < touched_by cs key s.at = state.0.begun in omega arith);
-          reached = (let b = longer in omega arith);
-          scratch = scratch_more s reached state.0.scratch;
-          owned = state.0.owned;
-          held_names = state.0.held_names;
-          made = λ name is. state.0.made name (is_some_by _ _ (sym (doc_more s.at reached name)) is);
-        }, record {
-          recent = (let b : touched_by cs key c ≤ s.at = state.1.recent in omega arith);
-          exact = λ no_. let e = state.1.exact no_ in (holds_more s.at held reached e.0, names_more s.at s.names reached e.1);
-          ahead = λ later. (let b : c < touched_by cs key s.at = state.1.ahead later in omega arith);
-          dirty = state.1.dirty;
-        })
+        let u : touched_by more key c ≡ touched_by cs key c = touched_more c le in (
+          record {
+            begun = (let b : 0 < touched_by cs key s.at = state.0.begun in omega arith);
+            reached = (let b = longer in omega arith);
+            scratch = scratch_more s reached state.0.scratch;
+            owned = state.0.owned;
+            held_names = state.0.held_names;
+            made = λ name is. state.0.made name (is_some_by _ _ (sym (doc_more s.at reached name)) is);
+          },
+          record {
+            recent = (let b : touched_by cs key c ≤ s.at = state.1.recent in omega arith);
+            exact = λ no_. let e = state.1.exact no_ in (holds_more s.at held reached e.0, names_more s.at s.names reached e.1);
+            ahead = λ later. (let b : c < touched_by cs key s.at = state.1.ahead later in omega arith);
+            dirty = state.1.dirty;
+          },
+        )
 
     more_id : (c : ℕ) (stored : Option StateDoc) (held : Look (List ℕ)) → c ≤ length cs → IsSoundId f cs c key stored held → IsSoundId f more c key stored held
     more_id c stored held le sound = record {
       state = state_more c stored held le sound.state;
       fresh = λ name own. let old = sound.fresh name own in
           (old.0, old.1, (let a : old.0 ≤ length cs = old.2 in let b = longer in omega arith), old.3 ∙ sym (doc_more old.0 old.2 name));
-      linked = λ mine is. let old = sound.linked mine is in
-          (old.0, record {
-            past = old.1.past;
-            within = (let a : old.0 ≤ length cs = old.1.within in let b = longer in omega arith);
-            index = old.1.index ∙ sym (doc_more old.0 old.1.within (index_name key));
-            all = λ name makes. old.1.all name (is_some_by _ _ (sym (doc_more old.0 old.1.within name)) makes);
-          });
+      linked = λ mine is. let old = sound.linked mine is in (
+        old.0,
+        record {
+          past = old.1.past;
+          within = (let a : old.0 ≤ length cs = old.1.within in let b = longer in omega arith);
+          index = old.1.index ∙ sym (doc_more old.0 old.1.within (index_name key));
+          all = λ name makes. old.1.all name (is_some_by _ _ (sym (doc_more old.0 old.1.within name)) makes);
+        },
+      );
     }
 
   pub more_sound : (c : ℕ) (states : Look StateDoc) (held : Look (List ℕ)) → IsSoundHive f cs c states held → IsSoundHive f more c states held

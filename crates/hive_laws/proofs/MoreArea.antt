@@ -1,13 +1,12 @@
 -- A further commit leaves what an area holds of a hive.
-use Rattle.std.proofs.Common.{◌≡◌, ◌<◌, ◌≤◌, ℕ, zero, suc, List, [], ◌∷◌, ◌++◌, length, take, Some, refl, sym, ◌∙◌, ap, arith}
+use Rattle.std.proofs.Common.{◌≡◌, ◌<◌, ◌≤◌, ℕ, zero, suc, [], ◌∷◌, ◌++◌, length, Some, refl, sym, ◌∙◌, ap, arith}
 use Rattle.std.specs.List.{slice_get}
 use Rattle.blob_store.specs.Area.{Area}
 use Rattle.pkg_meta.specs.Catalog.{Catalog}
-use Rattle.pkg_meta.specs.declared.commit.Commit.{Commit}
 use Rattle.pkg_meta.specs.declared.commit.Stored.{Stored}
 use Rattle.cursor_doc.specs.Cursor.{cursor_text}
 use Rattle.fold_core.specs.Folds.{Fold}
-use Rattle.fold_core.specs.Items.{commits_of, stamp_at, stamp_in}
+use Rattle.fold_core.specs.Items.{commits_of, stamp_in}
 use Rattle.hive_laws.specs.Areas.{SoundArea, cursor_of}
 use Rattle.hive_laws.proofs.More.{more_sound}
 
@@ -21,12 +20,15 @@ cursor_more cs x zero le = refl
 cursor_more cs x (suc n) le = ap (λ (s : ℕ). Some (cursor_text (suc n) s)) (ap stamp_in (got_more cs x n (omega arith)))
 
 pub more_area : (f : Fold) (cs : Catalog) (x : Stored) (c : ℕ) (m : Area) → SoundArea f cs c m → SoundArea f (cs ++ x ∷ []) c m
-more_area f cs x c m sound = (sound.0, record {
-  area = record {
-    cursor = sound.1.area.cursor ∙ sym (cursor_more cs x c sound.1.sound.cursor);
-    held = sound.1.area.held;
-    values = sound.1.area.values;
-    known = sound.1.area.known;
-  };
-  sound = more_sound f cs x c sound.0 _ sound.1.sound;
-})
+more_area f cs x c m sound = (
+  sound.0,
+  record {
+    area = record {
+      cursor = sound.1.area.cursor ∙ sym (cursor_more cs x c sound.1.sound.cursor);
+      held = sound.1.area.held;
+      values = sound.1.area.values;
+      known = sound.1.area.known;
+    };
+    sound = more_sound f cs x c sound.0 _ sound.1.sound;
+  },
+)

@@ -1,17 +1,18 @@
 -- What each call does to what holds of one id.
-use Rattle.std.proofs.Common.{◌≡◌, ◌≢◌, ◌⊎◌, inl, inr, ⊎_elim, ◌<◌, ◌≤◌, ◌+◌, ℕ, List, [], ◌∷◌, length, Bool, true, false, Option, None, Some, refl, sym, ◌∙◌, ap, subst, arith}
+use Rattle.std.proofs.Common.{◌≡◌, ◌≢◌, ⊎_elim, ◌<◌, ◌≤◌, ℕ, List, length, true, false, Option, None, Some, refl, sym, ◌∙◌, subst, arith}
 use Rattle.std.proofs.lemmas.Bool.{cases_lt, false_from_ne_true}
 use Rattle.std.specs.Prelude.{Contains, IsSome}
 use Rattle.pkg_meta.specs.Catalog.{Catalog}
 use Rattle.pkg_meta.specs.declared.state.StateDoc.{StateDoc}
 use Rattle.fold_core.specs.Docs.{index_name, owner}
 use Rattle.fold_core.specs.Events.{IsChanged, IsCleanPut, IsDirtyPut, IsDocDelete, IsDocPut, names_in}
-use Rattle.fold_core.specs.Folds.{Clean, Fold, HoldsAt, IsCleanState, Look, NamesAt, made_at, touched_by}
+use Rattle.fold_core.specs.Folds.{Clean, Fold, HoldsAt, Look, made_at, touched_by}
 use Rattle.fold_core.specs.Items.{commits_of}
-use Rattle.fold_core.specs.Sound.{Fresh, HasState, IsAtCursor, IsAtMost, IsCovered, IsLinkedAt, IsSoundId, Linked}
+use Rattle.fold_core.specs.Sound.{Fresh, HasState, IsAtMost, IsSoundId}
 use Rattle.fold_core.proofs.Touches.{touched_rises, touched_stays, touched_within}
 use Rattle.hive_laws.specs.FoldLaws.{FoldLaws}
-use Rattle.hive_laws.proofs.Looks.{decide, is_some_by, no_some, none_in, some_by, unclean}
+use Rattle.hive_laws.proofs.Listed.{nothing_in}
+use Rattle.hive_laws.proofs.Looks.{decide, is_some_by, no_some, some_by, unclean}
 
 module _ (f : Fold) (cs : Catalog) (laws : FoldLaws f cs) (key : List ℕ) where
   within : (k : ℕ) → touched_by cs key k ≤ k
@@ -19,7 +20,7 @@ module _ (f : Fold) (cs : Catalog) (laws : FoldLaws f cs) (key : List ℕ) where
 
   old_owned : (c : ℕ) (stored : Option StateDoc) (held : Look (List ℕ)) → HasState f cs c key stored held
       → (name : List ℕ) → Contains (names_in stored) name → owner name ≡ Some key
-  old_owned c None held state name is = absurd (none_in name is)
+  old_owned c None held state name is = absurd (nothing_in name is)
   old_owned c (Some s) held state name is = state.0.owned name is
 
   pub old_held : (c : ℕ) (stored : Option StateDoc) (held : Look (List ℕ)) → HasState f cs c key stored held
@@ -30,19 +31,22 @@ module _ (f : Fold) (cs : Catalog) (laws : FoldLaws f cs) (key : List ℕ) where
   pub put_dirty : (c : ℕ) (stored : Option StateDoc) (held : Look (List ℕ)) (s : StateDoc) → IsSoundId f cs c key stored held
       → c < touched_by cs key s.at → s.at ≤ length cs → IsDirtyPut f cs key stored s → IsSoundId f cs c key (Some s) held
   put_dirty c stored held s sound item reached put = record {
-    state = (record {
-      begun = omega arith;
-      reached = reached;
-      scratch = put.scratch;
-      owned = λ name is. ⊎_elim (old_owned c stored held sound.state name) (laws.owned key s.at name) (put.only name is);
-      held_names = λ name own is. put.kept name (old_held c stored held sound.state name own is);
-      made = put.made;
-    }, record {
-      recent = let a = within c in let b = within s.at in omega arith;
-      exact = λ no_. absurd (unclean s.dirty put.dirty no_);
-      ahead = λ later. item;
-      dirty = λ is. let b = within s.at in omega arith;
-    });
+    state = (
+      record {
+        begun = omega arith;
+        reached = reached;
+        scratch = put.scratch;
+        owned = λ name is. ⊎_elim (old_owned c stored held sound.state name) (laws.owned key s.at name) (put.only name is);
+        held_names = λ name own is. put.kept name (old_held c stored held sound.state name own is);
+        made = put.made;
+      },
+      record {
+        recent = let a = within c in let b = within s.at in omega arith;
+        exact = λ no_. absurd (unclean s.dirty put.dirty no_);
+        ahead = λ later. item;
+        dirty = λ is. let b = within s.at in omega arith;
+      },
+    );
     fresh = sound.fresh;
     linked = sound.linked;
   }
@@ -50,19 +54,22 @@ module _ (f : Fold) (cs : Catalog) (laws : FoldLaws f cs) (key : List ℕ) where
   pub put_clean : (c : ℕ) (stored : Option StateDoc) (held : Look (List ℕ)) (s : StateDoc) → IsSoundId f cs c key stored held
       → c < touched_by cs key s.at → s.at ≤ length cs → IsCleanPut f cs key held s → IsSoundId f cs c key (Some s) held
   put_clean c stored held s sound item reached put = record {
-    state = (record {
-      begun = omega arith;
-      reached = reached;
-      scratch = put.scratch;
-      owned = λ name is. laws.owned key s.at name (put.names.only name is);
-      held_names = λ name own is. put.names.made name (is_some_by _ _ (sym (put.holds name own)) is);
-      made = put.names.made;
-    }, record {
-      recent = let a = within c in let b = within s.at in omega arith;
-      exact = λ no_. (put.holds, put.names);
-      ahead = λ later. item;
-      dirty = λ is. absurd (unclean s.dirty is put.clean);
-    });
+    state = (
+      record {
+        begun = omega arith;
+        reached = reached;
+        scratch = put.scratch;
+        owned = λ name is. laws.owned key s.at name (put.names.only name is);
+        held_names = λ name own is. put.names.made name (is_some_by _ _ (sym (put.holds name own)) is);
+        made = put.names.made;
+      },
+      record {
+        recent = let a = within c in let b = within s.at in omega arith;
+        exact = λ no_. (put.holds, put.names);
+        ahead = λ later. item;
+        dirty = λ is. absurd (unclean s.dirty is put.clean);
+      },
+    );
     fresh = sound.fresh;
     linked = sound.linked;
   }
@@ -70,20 +77,23 @@ module _ (f : Fold) (cs : Catalog) (laws : FoldLaws f cs) (key : List ℕ) where
   -- a change under one of the names of a dirty state leaves the state fitting
   changed_state : (c : ℕ) (s : StateDoc) (name : List ℕ) (found : Option (List ℕ)) (held new : Look (List ℕ)) → HasState f cs c key (Some s) held
       → s.dirty ≡ true → Contains s.names name → IsChanged name found held new → HasState f cs c key (Some s) new
-  changed_state c s name found held new state dirty named changed = (record {
-    begun = state.0.begun;
-    reached = state.0.reached;
-    scratch = state.0.scratch;
-    owned = state.0.owned;
-    held_names = λ q mine is. ⊎_elim (λ e. subst (λ (x : List ℕ). Contains s.names x) (sym e) named)
-        (λ o. state.0.held_names q mine (is_some_by _ _ (sym (changed.other q o)) is)) (decide q name);
-    made = state.0.made;
-  }, record {
-    recent = state.1.recent;
-    exact = λ no_. absurd (unclean s.dirty dirty no_);
-    ahead = state.1.ahead;
-    dirty = state.1.dirty;
-  })
+  changed_state c s name found held new state dirty named changed = (
+    record {
+      begun = state.0.begun;
+      reached = state.0.reached;
+      scratch = state.0.scratch;
+      owned = state.0.owned;
+      held_names = λ q mine is. ⊎_elim (λ e. subst (λ (x : List ℕ). Contains s.names x) (sym e) named)
+          (λ o. state.0.held_names q mine (is_some_by _ _ (sym (changed.other q o)) is)) (decide q name);
+      made = state.0.made;
+    },
+    record {
+      recent = state.1.recent;
+      exact = λ no_. absurd (unclean s.dirty dirty no_);
+      ahead = state.1.ahead;
+      dirty = state.1.dirty;
+    },
+  )
 
   -- and where it gives what `at` makes, the documents are still such of prefixes
   changed_fresh : (c : ℕ) (s : StateDoc) (name : List ℕ) (found : Option (List ℕ)) (held new : Look (List ℕ)) → c ≤ s.at → s.at ≤ length cs → Fresh f cs c key held
@@ -105,19 +115,25 @@ module _ (f : Fold) (cs : Catalog) (laws : FoldLaws f cs) (key : List ℕ) where
         state = changed_state c s name (Some bytes) held new sound.state put.dirty put.named changed;
         fresh = changed_fresh c s name (Some bytes) held new (omega arith) sound.state.0.reached sound.fresh changed (sym put.made);
         linked = λ mine is. ⊎_elim
-            (λ (e : index_name key ≡ name). (s.at, record {
-              past = omega arith;
-              within = sound.state.0.reached;
-              index = subst (λ (x : List ℕ). new x ≡ made_at f cs key s.at x) (sym e) here;
-              all = λ q makes. ⊎_elim (λ x. subst (λ (y : List ℕ). IsSome (new y)) (sym x) (is_some_by _ _ here made))
-                  (λ o. is_some_by _ _ (changed.other q o ∙ put.index (sym e) q o makes) makes) (decide q name);
-            }))
-            (λ o. let old = sound.linked mine (is_some_by _ _ (sym (changed.other (index_name key) o)) is) in (old.0, record {
-              past = old.1.past;
-              within = old.1.within;
-              index = changed.other (index_name key) o ∙ old.1.index;
-              all = λ q makes. still q (old.1.all q makes);
-            })) (decide (index_name key) name);
+            (λ (e : index_name key ≡ name). (
+              s.at,
+              record {
+                past = omega arith;
+                within = sound.state.0.reached;
+                index = subst (λ (x : List ℕ). new x ≡ made_at f cs key s.at x) (sym e) here;
+                all = λ q makes. ⊎_elim (λ x. subst (λ (y : List ℕ). IsSome (new y)) (sym x) (is_some_by _ _ here made))
+                    (λ o. is_some_by _ _ (changed.other q o ∙ put.index (sym e) q o makes) makes) (decide q name);
+              },
+            ))
+            (λ o. let old = sound.linked mine (is_some_by _ _ (sym (changed.other (index_name key) o)) is) in (
+              old.0,
+              record {
+                past = old.1.past;
+                within = old.1.within;
+                index = changed.other (index_name key) o ∙ old.1.index;
+                all = λ q makes. still q (old.1.all q makes);
+              },
+            )) (decide (index_name key) name);
       }
 
   pub delete_doc : (c : ℕ) (s : StateDoc) (name : List ℕ) (held new : Look (List ℕ)) → IsSoundId f cs c key (Some s) held
@@ -130,40 +146,49 @@ module _ (f : Fold) (cs : Catalog) (laws : FoldLaws f cs) (key : List ℕ) where
         state = changed_state c s name None held new sound.state put.dirty put.named changed;
         fresh = changed_fresh c s name None held new (omega arith) sound.state.0.reached sound.fresh changed (sym put.unmade);
         linked = λ mine is. ⊎_elim
-            (λ g. (s.at, record {
-              past = omega arith;
-              within = sound.state.0.reached;
-              index = changed.other (index_name key) (apart (index_name key) g.0) ∙ g.1 (index_name key) g.0;
-              all = λ q makes. is_some_by _ _ (changed.other q (apart q makes) ∙ g.1 q makes) makes;
-            }))
+            (λ g. (
+              s.at,
+              record {
+                past = omega arith;
+                within = sound.state.0.reached;
+                index = changed.other (index_name key) (apart (index_name key) g.0) ∙ g.1 (index_name key) g.0;
+                all = λ q makes. is_some_by _ _ (changed.other q (apart q makes) ∙ g.1 q makes) makes;
+              },
+            ))
             (λ g. absurd (⊎_elim
-                (λ e. no_some (new (index_name key)) (subst (λ (x : List ℕ). new x ≡ None) e changed.here) is)
-                (λ gone. ⊎_elim
-                    (λ e. no_some (new (index_name key)) (subst (λ (x : List ℕ). new x ≡ None) (sym e) changed.here) is)
-                    (λ o. no_some (new (index_name key)) (changed.other (index_name key) o ∙ gone) is) (decide (index_name key) name)) g.1)) put.index;
+            (λ e. no_some (new (index_name key)) (subst (λ (x : List ℕ). new x ≡ None) e changed.here) is)
+            (λ gone. ⊎_elim
+            (λ e. no_some (new (index_name key)) (subst (λ (x : List ℕ). new x ≡ None) (sym e) changed.here) is)
+            (λ o. no_some (new (index_name key)) (changed.other (index_name key) o ∙ gone) is) (decide (index_name key) name)) g.1)) put.index;
       }
 
   -- the cursor goes on to where the id is clean
   advance_state : (c k : ℕ) (stored : Option StateDoc) (held : Look (List ℕ)) → HasState f cs c key stored held → Clean f cs key k stored held → HasState f cs k key stored held
   advance_state c k None held state clean = (clean.state, state.1)
-  advance_state c k (Some s) held state clean = (state.0, record {
-    recent = clean.state.recent;
-    exact = state.1.exact;
-    ahead = λ later. let le : s.at ≤ k = clean.state.reached in absurd (omega arith);
-    dirty = λ is. absurd (unclean s.dirty is clean.state.clean);
-  })
+  advance_state c k (Some s) held state clean = (
+    state.0,
+    record {
+      recent = clean.state.recent;
+      exact = state.1.exact;
+      ahead = λ later. let le : s.at ≤ k = clean.state.reached in absurd (omega arith);
+      dirty = λ is. absurd (unclean s.dirty is clean.state.clean);
+    },
+  )
 
   pub advance : (c k : ℕ) (stored : Option StateDoc) (held : Look (List ℕ)) → IsSoundId f cs c key stored held → k ≤ length cs → Clean f cs key k stored held
       → IsSoundId f cs k key stored held
   advance c k stored held sound reached clean = record {
     state = advance_state c k stored held sound.state clean;
     fresh = λ name own. (k, omega arith, reached, clean.holds name own);
-    linked = λ mine is. (k, record {
-      past = omega arith;
-      within = reached;
-      index = clean.holds (index_name key) mine;
-      all = λ name makes. is_some_by _ _ (clean.holds name (laws.owned key k name makes)) makes;
-    });
+    linked = λ mine is. (
+      k,
+      record {
+        past = omega arith;
+        within = reached;
+        index = clean.holds (index_name key) mine;
+        all = λ name makes. is_some_by _ _ (clean.holds name (laws.owned key k name makes)) makes;
+      },
+    );
   }
 
   -- a state that isn't dirty is exact up to the next item
@@ -226,28 +251,34 @@ module _ (f : Fold) (cs : Catalog) (laws : FoldLaws f cs) (key : List ℕ) where
 
     carry_state : (c : ℕ) (stored : Option StateDoc) → HasState f cs c key stored held → HasState f cs c key stored new
     carry_state c None state = (state.0, λ name own. same name own ∙ state.1 name own)
-    carry_state c (Some s) state = (record {
-      begun = state.0.begun;
-      reached = state.0.reached;
-      scratch = state.0.scratch;
-      owned = state.0.owned;
-      held_names = λ name own is. state.0.held_names name own (is_some_by _ _ (sym (same name own)) is);
-      made = state.0.made;
-    }, record {
-      recent = state.1.recent;
-      exact = λ no_. let e = state.1.exact no_ in (carry_holds s.at e.0, e.1);
-      ahead = state.1.ahead;
-      dirty = state.1.dirty;
-    })
+    carry_state c (Some s) state = (
+      record {
+        begun = state.0.begun;
+        reached = state.0.reached;
+        scratch = state.0.scratch;
+        owned = state.0.owned;
+        held_names = λ name own is. state.0.held_names name own (is_some_by _ _ (sym (same name own)) is);
+        made = state.0.made;
+      },
+      record {
+        recent = state.1.recent;
+        exact = λ no_. let e = state.1.exact no_ in (carry_holds s.at e.0, e.1);
+        ahead = state.1.ahead;
+        dirty = state.1.dirty;
+      },
+    )
 
     pub carry : (c : ℕ) (stored : Option StateDoc) → IsSoundId f cs c key stored held → IsSoundId f cs c key stored new
     carry c stored sound = record {
       state = carry_state c stored sound.state;
       fresh = λ name own. let old = sound.fresh name own in (old.0, old.1, old.2, same name own ∙ old.3);
-      linked = λ mine is. let old = sound.linked mine (is_some_by _ _ (sym (same (index_name key) mine)) is) in (old.0, record {
-        past = old.1.past;
-        within = old.1.within;
-        index = same (index_name key) mine ∙ old.1.index;
-        all = λ name makes. is_some_by _ _ (same name (laws.owned key old.0 name makes)) (old.1.all name makes);
-      });
+      linked = λ mine is. let old = sound.linked mine (is_some_by _ _ (sym (same (index_name key) mine)) is) in (
+        old.0,
+        record {
+          past = old.1.past;
+          within = old.1.within;
+          index = same (index_name key) mine ∙ old.1.index;
+          all = λ name makes. is_some_by _ _ (same name (laws.owned key old.0 name makes)) (old.1.all name makes);
+        },
+      );
     }

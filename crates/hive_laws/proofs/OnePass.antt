@@ -1,11 +1,11 @@
 -- The steps of a pass: allowed one after the other, and what they leave.
-use Rattle.std.proofs.Common.{◌≡◌, ◌≢◌, ◌⊎◌, inl, inr, ⊎_elim, ◌<◌, ◌≤◌, ℕ, zero, suc, List, [], ◌∷◌, ◌++◌, codes, length, map, take, Bool, true, false, Option, None, Some, refl, sym, ◌∙◌, ap, subst, arith}
+use Rattle.std.proofs.Common.{◌≡◌, inl, inr, ⊎_elim, ◌<◌, ◌≤◌, ℕ, zero, suc, List, [], ◌∷◌, ◌++◌, codes, length, map, take, Bool, true, false, Option, None, Some, refl, sym, ◌∙◌, ap, subst, arith}
 use Rattle.std.specs.Prelude.{Contains, IsSome}
 use Rattle.pkg_meta.specs.Catalog.{Catalog}
 use Rattle.pkg_meta.specs.declared.state.StateDoc.{StateDoc}
 use Rattle.fold_core.specs.Docs.{index_name, owner}
 use Rattle.fold_core.specs.Events.{HoldsAll, HoldsButFor, IsIndexDone, names_in}
-use Rattle.fold_core.specs.Folds.{Clean, Fold, HoldsAt, IsCleanState, Look, NamesAt, made_at, touched_by}
+use Rattle.fold_core.specs.Folds.{Clean, Fold, HoldsAt, Look, NamesAt, made_at, touched_by}
 use Rattle.fold_core.specs.Items.{commits_of}
 use Rattle.fold_core.specs.Sound.{IsSoundId}
 use Rattle.fold_core.proofs.DocNames.{owner_of}
@@ -15,7 +15,7 @@ use Rattle.hive_laws.specs.Plans.{IsPassPlan, NamedBytes, PassPlan, names_of_doc
 use Rattle.hive_laws.specs.Steps.{AreAllowed, IsAllowed, KeptOfId, Step, PutState, PutDoc, RemoveDoc, after_step, after_steps, with_found}
 use Rattle.hive_laws.proofs.EveryHive.{item_whole}
 use Rattle.hive_laws.proofs.Listed.{first, later, nothing_in, split}
-use Rattle.hive_laws.proofs.Looks.{decide, no_some, none_or_some, some_by, the_some, with_found_changed, with_found_here, with_found_other}
+use Rattle.hive_laws.proofs.Looks.{decide, no_some, none_or_some, some_by, with_found_changed, with_found_here, with_found_other}
 use Rattle.hive_laws.proofs.OneId.{delete_doc, old_held, put_clean, put_dirty, put_doc}
 
 -- an allowed step keeps the id sound
@@ -26,15 +26,15 @@ module _ (f : Fold) (cs : Catalog) (laws : FoldLaws f cs) (c k : ℕ) (key : Lis
       let ahead : c < touched_by cs key s.at = subst (λ (n : ℕ). c < touched_by cs key n) (sym allowed.0) item in
       let within : s.at ≤ length cs = (let e : s.at ≡ k = allowed.0 in omega arith) in
       ⊎_elim (λ put. put_dirty f cs laws key c kept.stored kept.held s sound ahead within put)
-          (λ put. put_clean f cs laws key c kept.stored kept.held s sound ahead within put) allowed.1
+      (λ put. put_clean f cs laws key c kept.stored kept.held s sound ahead within put) allowed.1
   step_keeps (PutDoc name bytes) kept sound allowed =
       subst (λ (o : Option StateDoc). IsSoundId f cs c key o (with_found name (Some bytes) kept.held)) (sym allowed.2)
-          (put_doc f cs laws key c allowed.0 name bytes kept.held (with_found name (Some bytes) kept.held)
-          (subst (λ (o : Option StateDoc). IsSoundId f cs c key o kept.held) allowed.2 sound) allowed.3 (with_found_changed name (Some bytes) kept.held))
+      (put_doc f cs laws key c allowed.0 name bytes kept.held (with_found name (Some bytes) kept.held)
+      (subst (λ (o : Option StateDoc). IsSoundId f cs c key o kept.held) allowed.2 sound) allowed.3 (with_found_changed name (Some bytes) kept.held))
   step_keeps (RemoveDoc name) kept sound allowed =
       subst (λ (o : Option StateDoc). IsSoundId f cs c key o (with_found name None kept.held)) (sym allowed.2)
-          (delete_doc f cs laws key c allowed.0 name kept.held (with_found name None kept.held)
-          (subst (λ (o : Option StateDoc). IsSoundId f cs c key o kept.held) allowed.2 sound) allowed.3 (with_found_changed name None kept.held))
+      (delete_doc f cs laws key c allowed.0 name kept.held (with_found name None kept.held)
+      (subst (λ (o : Option StateDoc). IsSoundId f cs c key o kept.held) allowed.2 sound) allowed.3 (with_found_changed name None kept.held))
 
   -- and so does each prefix of allowed steps
   pub steps_keep : (steps : List Step) (kept : KeptOfId) → IsSoundId f cs c key kept.stored kept.held → AreAllowed f cs key k steps kept
@@ -135,28 +135,36 @@ module _ (f : Fold) (cs : Catalog) (key : List ℕ) (s : StateDoc) (dirty : s.di
       → AreAllowed f cs key s.at (puts_of_docs docs) (kept_of (Some s) held)
   unfolding AreMade
   puts_allowed [] held right named guard = tt
-  puts_allowed (d ∷ docs) held right named guard =
-      ((s, refl, refl, record { dirty = dirty; named = named d (first d docs); made = right d (first d docs); index = guard d (first d docs) }),
-        puts_allowed docs (with_found d.name (Some d.bytes) held) (λ x in_. right x (later d x docs in_)) (λ x in_. named x (later d x docs in_))
-          (λ x in_ is_index q o makes. ⊎_elim (λ e. put_stands made_then d held q (right d (first d docs)) e)
-              (λ other. with_found_other d.name (Some d.bytes) held q other ∙ guard x (later d x docs in_) is_index q o makes) (decide q d.name)))
+  puts_allowed (d ∷ docs) held right named guard = (
+    (s, refl, refl, record { dirty = dirty; named = named d (first d docs); made = right d (first d docs); index = guard d (first d docs) }),
+    puts_allowed docs (with_found d.name (Some d.bytes) held) (λ x in_. right x (later d x docs in_)) (λ x in_. named x (later d x docs in_))
+        (λ x in_ is_index q o makes. ⊎_elim (λ e. put_stands made_then d held q (right d (first d docs)) e)
+        (λ other. with_found_other d.name (Some d.bytes) held q other ∙ guard x (later d x docs in_) is_index q o makes) (decide q d.name)),
+  )
 
   done_kept : (name q : List ℕ) (held : Look (List ℕ)) → made_then name ≡ None → IsIndexDone f cs key s.at q held → IsIndexDone f cs key s.at q (with_found name None held)
   done_kept name q held unmade done = ⊎_elim
-      (λ all. inl (all.0, λ x makes. with_found_other name None held x
-          (λ e. no_some (made_then name) unmade (subst (λ (y : List ℕ). IsSome (made_then y)) e makes)) ∙ all.1 x makes))
-      (λ none. inr (none.0, ⊎_elim (λ e. inl e) (λ gone. inr (⊎_elim
-          (λ e. subst (λ (x : List ℕ). with_found name None held x ≡ None) (sym e) (with_found_here name None held))
-          (λ o. with_found_other name None held (index_name key) o ∙ gone) (decide (index_name key) name))) none.1)) done
+      (λ all. inl (
+        all.0,
+        λ x makes. with_found_other name None held x
+            (λ e. no_some (made_then name) unmade (subst (λ (y : List ℕ). IsSome (made_then y)) e makes)) ∙ all.1 x makes,
+      ))
+      (λ none. inr (
+        none.0,
+        ⊎_elim (λ e. inl e) (λ gone. inr (⊎_elim
+            (λ e. subst (λ (x : List ℕ). with_found name None held x ≡ None) (sym e) (with_found_here name None held))
+            (λ o. with_found_other name None held (index_name key) o ∙ gone) (decide (index_name key) name))) none.1,
+      )) done
 
   removals_allowed : (names : List (List ℕ)) (held : Look (List ℕ)) → ((q : List ℕ) → Contains names q → Contains s.names q)
       → ((q : List ℕ) → Contains names q → made_then q ≡ None) → ((q : List ℕ) → Contains names q → IsIndexDone f cs key s.at q held)
       → AreAllowed f cs key s.at (map RemoveDoc names) (kept_of (Some s) held)
   removals_allowed [] held named unmade done = tt
-  removals_allowed (name ∷ names) held named unmade done =
-      ((s, refl, refl, record { dirty = dirty; named = named name (first name names); unmade = unmade name (first name names); index = done name (first name names) }),
-        removals_allowed names (with_found name None held) (λ q in_. named q (later name q names in_)) (λ q in_. unmade q (later name q names in_))
-          (λ q in_. done_kept name q held (unmade name (first name names)) (done q (later name q names in_))))
+  removals_allowed (name ∷ names) held named unmade done = (
+    (s, refl, refl, record { dirty = dirty; named = named name (first name names); unmade = unmade name (first name names); index = done name (first name names) }),
+    removals_allowed names (with_found name None held) (λ q in_. named q (later name q names in_)) (λ q in_. unmade q (later name q names in_))
+        (λ q in_. done_kept name q held (unmade name (first name names)) (done q (later name q names in_))),
+  )
 
 -- the index among the documents that are put, and among the names that are removed
 index_docs : List ℕ → Option (List ℕ) → List NamedBytes
@@ -267,13 +275,13 @@ module _ (f : Fold) (cs : Catalog) (laws : FoldLaws f cs) (c : ℕ) (key : List 
   no_index3 : (q : List ℕ) → owner q ≡ Some key → doc q ≡ None → q ≡ index_name key → m3 q ≡ None
   no_index3 q own none is_index = ⊎_elim (λ gone. absent3 q none gone)
       (λ is. subst (λ (x : List ℕ). m3 x ≡ None) (sym is_index) (takes_away dropped m2 (index_name key) (index_removed key p.drops_index
-          (plan.drops (subst (λ (x : List ℕ). Contains (names_in stored) x) is_index (was_named q own is)) (subst (λ (x : List ℕ). doc x ≡ None) is_index none)))))
+      (plan.drops (subst (λ (x : List ℕ). Contains (names_in stored) x) is_index (was_named q own is)) (subst (λ (x : List ℕ). doc x ≡ None) is_index none)))))
       (none_or_some (m0 q))
 
   none4 : (q : List ℕ) → owner q ≡ Some key → doc q ≡ None → m4 q ≡ None
   none4 q own none = ⊎_elim (λ gone. stays_gone p.removed m3 q (absent3 q none gone))
       (λ is. ⊎_elim (λ e. stays_gone p.removed m3 q (no_index3 q own none e))
-          (λ o. takes_away p.removed m3 q (plan.removes q o (was_named q own is) none)) (decide q (index_name key))) (none_or_some (m0 q))
+      (λ o. takes_away p.removed m3 q (plan.removes q o (was_named q own is) none)) (decide q (index_name key))) (none_or_some (m0 q))
 
   held4 : HoldsAt f cs key p.dirty.at m4
   held4 q own = ⊎_elim (λ none. none4 q own none ∙ sym none) (λ makes. all4 q makes) (none_or_some (doc q))
@@ -316,23 +324,31 @@ module _ (f : Fold) (cs : Catalog) (laws : FoldLaws f cs) (c : ℕ) (key : List 
         (λ q is. ⊎_elim (λ none. inr (none, inr (no_index3 (index_name key) mine none refl))) (λ makes. inl (makes, all3)) (none_or_some (doc (index_name key))))
 
     run_clean : AreAllowed f cs key p.dirty.at from_clean (beside m4)
-    run_clean = ((clean_at, inr (record {
-      scratch = plan.scratch;
-      clean = plan.clean;
-      names = subst (λ (n : ℕ). NamesAt f cs key n p.clean.names) (sym clean_at) plan.names;
-      holds = subst (λ (n : ℕ). HoldsAt f cs key n m4) (sym clean_at) held4;
-    })), tt)
+    run_clean = (
+      (
+        clean_at,
+        inr (record {
+          scratch = plan.scratch;
+          clean = plan.clean;
+          names = subst (λ (n : ℕ). NamesAt f cs key n p.clean.names) (sym clean_at) plan.names;
+          holds = subst (λ (n : ℕ). HoldsAt f cs key n m4) (sym clean_at) held4;
+        }),
+      ),
+      tt,
+    )
 
     go_on : (some more : List Step) (held new : Look (List ℕ)) → AreAllowed f cs key p.dirty.at some (beside held) → after_steps some (beside held) ≡ beside new
         → AreAllowed f cs key p.dirty.at more (beside new) → AreAllowed f cs key p.dirty.at (some ++ more) (beside held)
     go_on some more held new a is b = allowed_joined f cs key p.dirty.at some more (beside held) a (subst (λ (kept : KeptOfId). AreAllowed f cs key p.dirty.at more kept) (sym is) b)
 
     all_allowed : AreAllowed f cs key p.dirty.at (PutState p.dirty ∷ from_written) (kept_of stored m0)
-    all_allowed = ((refl, inl plan.dirty),
-        go_on (puts_of_docs p.written) from_index m0 m1 run_written (after_puts p.written (Some p.dirty) m0)
-        (go_on (puts_of_docs docs) from_dropped m1 m2 run_index (after_puts docs (Some p.dirty) m1)
-        (go_on (map RemoveDoc dropped) from_removed m2 m3 run_dropped (after_removals dropped (Some p.dirty) m2)
-        (go_on (map RemoveDoc p.removed) from_clean m3 m4 run_removed (after_removals p.removed (Some p.dirty) m3) run_clean))))
+    all_allowed = (
+      (refl, inl plan.dirty),
+      go_on (puts_of_docs p.written) from_index m0 m1 run_written (after_puts p.written (Some p.dirty) m0)
+          (go_on (puts_of_docs docs) from_dropped m1 m2 run_index (after_puts docs (Some p.dirty) m1)
+          (go_on (map RemoveDoc dropped) from_removed m2 m3 run_dropped (after_removals dropped (Some p.dirty) m2)
+          (go_on (map RemoveDoc p.removed) from_clean m3 m4 run_removed (after_removals p.removed (Some p.dirty) m3) run_clean))),
+    )
 
     after_more : (some more : List Step) (held new : Look (List ℕ)) → after_steps some (beside held) ≡ beside new
         → after_steps (some ++ more) (beside held) ≡ after_steps more (beside new)

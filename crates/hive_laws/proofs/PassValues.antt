@@ -26,8 +26,10 @@ module _ (key : List ℕ) where
   plan_values plan dirty clean =
       let last : List Step = PutState plan.clean ∷ [] in
       let removals : List Step = map RemoveDoc plan.removed ++ last in
-      let drops : List Step = removals_of_index key plan.drops_index ++ removals in
-      (dirty, values_joined key (puts_of_docs plan.written) (puts_of_index key plan.index ++ drops) (of_puts plan.written)
-          (values_joined key (puts_of_index key plan.index) drops (of_index plan.index)
-          (values_joined key (removals_of_index key plan.drops_index) removals (of_index_removals plan.drops_index)
-          (values_joined key (map RemoveDoc plan.removed) last (of_removals plan.removed) (clean, tt)))))
+      let drops : List Step = removals_of_index key plan.drops_index ++ removals in (
+        dirty,
+        values_joined key (puts_of_docs plan.written) (puts_of_index key plan.index ++ drops) (of_puts plan.written)
+            (values_joined key (puts_of_index key plan.index) drops (of_index plan.index)
+            (values_joined key (removals_of_index key plan.drops_index) removals (of_index_removals plan.drops_index)
+            (values_joined key (map RemoveDoc plan.removed) last (of_removals plan.removed) (clean, tt)))),
+      )

@@ -1,5 +1,5 @@
 -- What a hive's documents owe to the catalog.
-use Rattle.std.specs.Prelude.{◌≡◌, ◌≤◌, ℕ, List, Option, Some, None, IsSome}
+use Rattle.std.specs.Prelude.{◌≡◌, ◌≤◌, ℕ, List, Some, None, IsSome}
 use Rattle.pkg_meta.specs.Catalog.{Catalog}
 use Rattle.fold_core.specs.Docs.{owner}
 use Rattle.fold_core.specs.Folds.{Fold, made_at, touched_by}

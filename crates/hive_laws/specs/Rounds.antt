@@ -1,5 +1,5 @@
 -- The calls of passes on a hive's area, id by id.
-use Rattle.std.specs.Prelude.{◌≡◌, ◌≢◌, ◌⊎◌, ◌<◌, ◌≤◌, ◌+◌, ℕ, List, [], ◌∷◌, length, map, false, Contains, Option, Some, None, IfSome, option_map}
+use Rattle.std.specs.Prelude.{◌≡◌, ◌≢◌, ◌⊎◌, ◌<◌, ◌≤◌, ℕ, List, [], ◌∷◌, length, map, false, Contains, Option, Some, None, IfSome, option_map}
 use Rattle.std.specs.FinMap.{get}
 use Rattle.blob_store.specs.Area.{Area}
 use Rattle.blob_store.specs.Runs.{IsAfterSome, after_calls}

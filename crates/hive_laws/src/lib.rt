@@ -9,7 +9,8 @@ mod ids;
 mod passes;
 
 pub use areas::{
-    areas_hold_prefixes, areas_stay_sound, areas_tell_states, passes_keep_areas, rounds_settle_areas,
+    areas_hold_prefixes, areas_stay_sound, areas_tell_states, passes_keep_areas,
+    rounds_settle_areas,
 };
 pub use hives::{fronts_are_lawful, hives_have_laws};
 pub use ids::{cursors_move_on, ids_stay_sound, others_stay_sound, sound_ids_are_clean};

@@ -1,5 +1,3 @@
-use Rattle.hive_laws.specs.Plans.{pass_steps}
-use Rattle.hive_laws.specs.Steps.{with_found}
 use Rattle.hive_laws.proofs.AreaRounds.{pass_clean, pass_sound, prefix_changes, prefix_sound}
 use Rattle.hive_laws.proofs.areas.passes_keep_areas.Goals as goal
 

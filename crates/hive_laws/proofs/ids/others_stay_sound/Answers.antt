@@ -1,4 +1,4 @@
-use Rattle.hive_laws.proofs.OneId.{carry, carry_clean}
+use Rattle.hive_laws.proofs.OneId.{carry}
 use Rattle.hive_laws.proofs.More.{clean_more, more_sound}
 use Rattle.hive_laws.proofs.ids.others_stay_sound.Goals as goal
 
