@@ -1,5 +1,5 @@
 -- What passes and the cursor's put do to a hive's area.
-use Rattle.std.proofs.Common.{◌≡◌, ◌≢◌, inl, inr, ⊎_elim, ◌<◌, ◌≤◌, ℕ, List, [], ◌∷◌, length, take, Option, None, Some, refl, sym, ◌∙◌, subst, arith}
+use Rattle.std.proofs.Common.{◌≡◌, ◌≢◌, inl, inr, ⊎_elim, ◌<◌, ◌≤◌, ℕ, List, [], ◌∷◌, length, take, Option, None, Some, refl, sym, ◌∙◌, ap, subst, arith}
 use Rattle.std.proofs.lemmas.Bool.{cases_lt}
 use Rattle.std.proofs.lemmas.List.{take_all, take-map}
 use Rattle.std.specs.Cmp.Lexicographic.{slice_cmp}
@@ -19,10 +19,10 @@ use Rattle.fold_core.specs.Folds.{Clean, Fold, Look, Settled, touched_by}
 use Rattle.fold_core.specs.Items.{commits_of}
 use Rattle.fold_core.specs.Sound.{IsAtMost, IsSoundId}
 use Rattle.fold_core.proofs.Touches.{touched_within}
-use Rattle.hive_laws.specs.Areas.{IsSettledArea, IsSoundArea, SettledArea, SoundArea, cursor_of}
+use Rattle.hive_laws.specs.Areas.{IsSettledArea, IsSoundArea, SettledArea, SoundArea, cursor_at}
 use Rattle.hive_laws.specs.FoldLaws.{FoldLaws}
 use Rattle.hive_laws.specs.Plans.{PassPlan, pass_steps}
-use Rattle.hive_laws.specs.Rounds.{AreDue, AreLed, ChangesOneId, HaveItems, IsAreaPlan, IsLed, IsLeft, IsOnTheWay, IsPartlyPassed, IsPassed, IsUpToDate, call_of, plan_calls}
+use Rattle.hive_laws.specs.Rounds.{AreDue, AreLed, ChangesIds, ChangesOneId, HaveItems, IsAreaPlan, IsLed, IsSkipped, IsOnTheWay, IsPartlyPassed, IsPassed, IsUpToDate, call_of, plan_calls}
 use Rattle.hive_laws.specs.Steps.{AreAllowed, KeptOfId, Step, after_steps, with_found}
 use Rattle.hive_laws.proofs.AreaSteps.{AreOwn, others_same, own_front, own_steps, steps_agree, steps_change, steps_sound, values_front}
 use Rattle.hive_laws.proofs.AreaTells.{stored_is}
@@ -117,19 +117,19 @@ module _ (f : Fold) (cs : Catalog) (laws : FoldLaws f cs) (c k : ℕ) (reached :
         changes = pass_changes f cs laws c k key states m passed.plan area item reached plan;
       })
 
-  left_led : (key : List ℕ) (states : Look StateDoc) (m mid : Area) → IsSoundArea f cs c states m → IsLeft cs key k m mid → Led f cs c k key states m mid
-  left_led key states m mid area is_left =
-      let is : states key ≡ is_left.stored = stored_is cs c states m area.area key is_left.stored is_left.is_stored.value is_left.is_stored.held in
-      subst (λ (a : Area). Led f cs c k key states m a) (sym is_left.same) (record {
+  skipped_led : (key : List ℕ) (states : Look StateDoc) (m mid : Area) → IsSoundArea f cs c states m → IsSkipped cs key k m mid → Led f cs c k key states m mid
+  skipped_led key states m mid area skipped =
+      let is : states key ≡ skipped.stored = stored_is cs c states m area.area key skipped.stored skipped.is_stored.value skipped.is_stored.held in
+      subst (λ (a : Area). Led f cs c k key states m a) (sym skipped.same) (record {
         now = states;
         area = area;
-        clean = up_to_date key (states key) (get m) (area.sound.ids key) (subst (λ (o : Option StateDoc). IsUpToDate cs key k o) (sym is) is_left.up);
+        clean = up_to_date key (states key) (get m) (area.sound.ids key) (subst (λ (o : Option StateDoc). IsUpToDate cs key k o) (sym is) skipped.up);
         others = λ j other. refl;
         changes = λ q other unowned. refl;
       })
 
   led_one : (key : List ℕ) (states : Look StateDoc) (m mid : Area) → IsSoundArea f cs c states m → c < touched_by cs key k → IsLed f cs key k m mid → Led f cs c k key states m mid
-  led_one key states m mid area item led = ⊎_elim (λ passed. passed_led key states m mid area item passed) (λ is_left. left_led key states m mid area is_left) led
+  led_one key states m mid area item led = ⊎_elim (λ passed. passed_led key states m mid area item passed) (λ skipped. skipped_led key states m mid area skipped) led
 
   still_one : (key : List ℕ) (states : Look StateDoc) (m mid : Area) (led : Led f cs c k key states m mid) (j : List ℕ)
       → Clean f cs j k (states j) (get m) → Clean f cs j k (led.now j) (get mid)
@@ -173,6 +173,28 @@ module _ (f : Fold) (cs : Catalog) (laws : FoldLaws f cs) (c k : ℕ) (reached :
       let one = led_one key states m way.0 area (items key (first key keys)) way.1 in
       way_sound keys one.now way.0 left one.area (λ j is. items j (later key j keys is)) way.2
 
+  partly_changes : (key : List ℕ) (states : Look StateDoc) (m left : Area) → IsSoundArea f cs c states m → c < touched_by cs key k → IsPartlyPassed f cs key k m left → ChangesOneId key m left
+  partly_changes key states m left area item part =
+      let is : states key ≡ part.stored = stored_is cs c states m area.area key part.stored part.is_stored.value part.is_stored.held in
+      subst (λ (a : Area). ChangesOneId key m a) (sym part.calls.2) (prefix_changes f cs laws c k key states m part.plan area item reached
+      (subst (λ (o : Option StateDoc). IsAreaPlan f cs key k o m part.plan) (sym is) part.is_plan) part.calls.0)
+
+  pub way_changes : (keys : List (List ℕ)) (states : Look StateDoc) (m left : Area) → IsSoundArea f cs c states m → HaveItems cs c k keys → IsOnTheWay f cs k keys m left → ChangesIds keys m left
+  way_changes [] states m left area items same name out = ap (λ (a : Area). get a name) same
+  way_changes (key ∷ keys) states m left area items (inl same) name out = ap (λ (a : Area). get a name) same
+  way_changes (key ∷ keys) states m left area items (inr (inl part)) name out =
+      let own = out key (first key keys) in
+      partly_changes key states m left area (items key (first key keys)) part name own.0 own.1
+  way_changes (key ∷ keys) states m left area items (inr (inr way)) name out =
+      let own = out key (first key keys) in
+      let one = led_one key states m way.0 area (items key (first key keys)) way.1 in
+      way_changes keys one.now way.0 left one.area (λ j is. items j (later key j keys is)) way.2 name (λ j is. out j (later key j keys is)) ∙ one.changes name own.0 own.1
+
+  -- ids that were all led are on the way
+  pub led_on_the_way : (keys : List (List ℕ)) (m new : Area) → AreLed f cs k keys m new → IsOnTheWay f cs k keys m new
+  led_on_the_way [] m new led = led
+  led_on_the_way (key ∷ keys) m new led = inr (inr (led.0, led.1, led_on_the_way keys led.0 new led.2))
+
 -- at the catalog's end
 module _ (f : Fold) (cs : Catalog) (laws : FoldLaws f cs) (c : ℕ) (states : Look StateDoc) (m : Area) (area : IsSoundArea f cs c states m) where
   at_most : (key : List ℕ) (o : Option StateDoc) → IsSoundId f cs c key o (get m) → IsAtMost (length cs) o
@@ -183,7 +205,7 @@ module _ (f : Fold) (cs : Catalog) (laws : FoldLaws f cs) (c : ℕ) (states : Lo
   idle_there key few = idle f cs laws key c (length cs) (states key) (get m) (area.sound.ids key) area.sound.cursor few (at_most key (states key) (area.sound.ids key))
 
   -- the cursor's put
-  module _ (bytes : List ℕ) (is : cursor_of cs (length cs) ≡ Some bytes) (settled : Settled f cs (length cs) states (get m)) where
+  module _ (bytes : List ℕ) (is : cursor_at cs (length cs) ≡ Some bytes) (settled : Settled f cs (length cs) states (get m)) where
     abbrev put : Area
     put = with_blob cursor_name bytes m
 
@@ -214,8 +236,11 @@ module _ (f : Fold) (cs : Catalog) (laws : FoldLaws f cs) where
   pub on_the_way : (c : ℕ) (keys : List (List ℕ)) (m left : Area) → SoundArea f cs c m → HaveItems cs c (length cs) keys → IsOnTheWay f cs (length cs) keys m left → SoundArea f cs c left
   on_the_way c keys m left sound items here = way_sound f cs laws c (length cs) (omega arith) keys sound.0 m left sound.1 items here
 
+  pub round_changes : (c : ℕ) (keys : List (List ℕ)) (m left : Area) → SoundArea f cs c m → HaveItems cs c (length cs) keys → IsOnTheWay f cs (length cs) keys m left → ChangesIds keys m left
+  round_changes c keys m left sound items here = way_changes f cs laws c (length cs) (omega arith) keys sound.0 m left sound.1 items here
+
   pub round_settles : (c : ℕ) (keys : List (List ℕ)) (m new : Area) → SoundArea f cs c m → AreDue cs c (length cs) keys → AreLed f cs (length cs) keys m new
-      → (bytes : List ℕ) → cursor_of cs (length cs) ≡ Some bytes → SettledArea f cs (length cs) (with_blob cursor_name bytes new)
+      → (bytes : List ℕ) → cursor_at cs (length cs) ≡ Some bytes → SettledArea f cs (length cs) (with_blob cursor_name bytes new)
   round_settles c keys m new sound due led bytes is =
       let all = led_all f cs laws c (length cs) (omega arith) keys sound.0 m new sound.1 due.some led in (
         all.now,

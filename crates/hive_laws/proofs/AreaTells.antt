@@ -17,7 +17,7 @@ use Rattle.hive_state.specs.State.{state_name, state_text}
 use Rattle.hive_state.proofs.Same.{states_differ}
 use Rattle.fold_core.specs.Folds.{Look}
 use Rattle.fold_core.specs.Items.{commits_of, stamp_at, stamp_in}
-use Rattle.hive_laws.specs.Areas.{IsHiveArea, cursor_of}
+use Rattle.hive_laws.specs.Areas.{IsHiveArea, cursor_at}
 
 some_inside : {A : Type 0} (x y : A) → Some x ≡ Some y → x ≡ y
 some_inside x y e = cc
@@ -41,7 +41,7 @@ stamps_follow before (c ∷ cs) zero follow = follow.0.moment
 stamps_follow before (c ∷ cs) (suc n) follow = stamps_follow (before ++ c ∷ []) cs n follow.1
 
 pub cursor_tells : (cs : Catalog) (c : ℕ) → IsLawful cs → c ≤ length cs → (mark : Mark) → IsMarkValue mark
-    → cursor_of cs c ≡ Some (cursor_text mark.number mark.stamp) → mark.number ≡ c
+    → cursor_at cs c ≡ Some (cursor_text mark.number mark.stamp) → mark.number ≡ c
 cursor_tells cs zero lawful le mark value is = absurd (let no_ : None ≡ Some (cursor_text mark.number mark.stamp) = is in cc)
 cursor_tells cs (suc n) lawful le mark value is =
     let here : Mark = record { number = suc n; stamp = stamp_at (commits_of cs) (suc n) } in
@@ -49,6 +49,6 @@ cursor_tells cs (suc n) lawful le mark value is =
     ap (λ (x : Mark). x.number) (sym (cursors_differ here mark (record { number = omega arith; stamp = stamps_follow [] cs n lawful.commits }) value
     (some_inside (cursor_text (suc n) (stamp_at (commits_of cs) (suc n))) (cursor_text mark.number mark.stamp) is)))
 
-pub no_cursor_tells : (cs : Catalog) (c : ℕ) → cursor_of cs c ≡ None → c ≡ 0
+pub no_cursor_tells : (cs : Catalog) (c : ℕ) → cursor_at cs c ≡ None → c ≡ 0
 no_cursor_tells cs zero is = refl
 no_cursor_tells cs (suc n) is = absurd (let no_ : Some (cursor_text (suc n) (stamp_at (commits_of cs) (suc n))) ≡ None = is in cc)

@@ -7,7 +7,7 @@ use Rattle.pkg_meta.specs.declared.commit.Stored.{Stored}
 use Rattle.cursor_doc.specs.Cursor.{cursor_text}
 use Rattle.fold_core.specs.Folds.{Fold}
 use Rattle.fold_core.specs.Items.{commits_of, stamp_in}
-use Rattle.hive_laws.specs.Areas.{SoundArea, cursor_of}
+use Rattle.hive_laws.specs.Areas.{SoundArea, cursor_at}
 use Rattle.hive_laws.proofs.More.{more_sound}
 
 got_more : (cs : Catalog) (x : Stored) (n : ℕ) → n < length cs → slice_get (commits_of (cs ++ x ∷ [])) n ≡ slice_get (commits_of cs) n
@@ -15,7 +15,7 @@ got_more [] x n lt = absurd (omega arith)
 got_more (c ∷ cs) x zero lt = refl
 got_more (c ∷ cs) x (suc n) lt = got_more cs x n (omega arith)
 
-cursor_more : (cs : Catalog) (x : Stored) (c : ℕ) → c ≤ length cs → cursor_of (cs ++ x ∷ []) c ≡ cursor_of cs c
+cursor_more : (cs : Catalog) (x : Stored) (c : ℕ) → c ≤ length cs → cursor_at (cs ++ x ∷ []) c ≡ cursor_at cs c
 cursor_more cs x zero le = refl
 cursor_more cs x (suc n) le = ap (λ (s : ℕ). Some (cursor_text (suc n) s)) (ap stamp_in (got_more cs x n (omega arith)))
 

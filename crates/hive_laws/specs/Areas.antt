@@ -13,9 +13,9 @@ use Rattle.fold_core.specs.Items.{commits_of, stamp_at}
 use Rattle.fold_core.specs.Sound.{IsSoundHive}
 
 -- the document of a cursor that stands at commit c, with that commit's stamp; none at 0
-abbrev pub cursor_of : Catalog → ℕ → Option (List ℕ)
-cursor_of cs zero = None
-cursor_of cs (suc n) = Some (cursor_text (suc n) (stamp_at (commits_of cs) (suc n)))
+abbrev pub cursor_at : Catalog → ℕ → Option (List ℕ)
+cursor_at cs zero = None
+cursor_at cs (suc n) = Some (cursor_text (suc n) (stamp_at (commits_of cs) (suc n)))
 
 -- the name of the cursor, of a state, or of a document of an id
 abbrev pub IsHiveName : List ℕ → Type 0
@@ -23,7 +23,7 @@ IsHiveName name = (name ≡ cursor_name) ⊎ (((key : List ℕ) × (name ≡ sta
 
 -- the area holds this cursor and these states, of the values that the code's types have, and beside them documents of ids alone
 pub record IsHiveArea (cs : Catalog) (c : ℕ) (states : Look StateDoc) (m : Area) : Type 0 where
-  pub cursor : get m cursor_name ≡ cursor_of cs c
+  pub cursor : get m cursor_name ≡ cursor_at cs c
   pub held : (key : List ℕ) → get m (state_name key) ≡ option_map state_text (states key)
   pub values : (key : List ℕ) → IfSome (states key) IsStateValue
   pub known : (name : List ℕ) → IsSome (get m name) → IsHiveName name

@@ -69,7 +69,7 @@ pub record IsPartlyPassed (f : Fold) (cs : Catalog) (key : List ℕ) (k : ℕ) (
   pub calls : IsAfterSome (plan_calls key plan) m left
 
 -- the id was up to date, and no call was made
-pub record IsLeft (cs : Catalog) (key : List ℕ) (k : ℕ) (m new : Area) : Type 0 where
+pub record IsSkipped (cs : Catalog) (key : List ℕ) (k : ℕ) (m new : Area) : Type 0 where
   pub stored : Option StateDoc
   pub is_stored : IsStored key m stored
   pub up : IsUpToDate cs key k stored
@@ -77,7 +77,7 @@ pub record IsLeft (cs : Catalog) (key : List ℕ) (k : ℕ) (m new : Area) : Typ
 
 -- the id was led to commit k: by the calls of a plan, or by none where it was up to date
 abbrev pub IsLed : Fold → Catalog → List ℕ → ℕ → Area → Area → Type 0
-IsLed f cs key k m new = IsPassed f cs key k m new ⊎ IsLeft cs key k m new
+IsLed f cs key k m new = IsPassed f cs key k m new ⊎ IsSkipped cs key k m new
 
 -- so were the ids with these keys, one after the other
 abbrev pub AreLed : Fold → Catalog → ℕ → List (List ℕ) → Area → Area → Type 0
@@ -89,6 +89,11 @@ abbrev pub IsOnTheWay : Fold → Catalog → ℕ → List (List ℕ) → Area �
 IsOnTheWay f cs k [] m left = left ≡ m
 IsOnTheWay f cs k (key ∷ keys) m left =
     (left ≡ m) ⊎ (IsPartlyPassed f cs key k m left ⊎ ((mid : Area) × IsLed f cs key k m mid × IsOnTheWay f cs k keys mid left))
+
+-- only states and documents of these ids may have changed
+abbrev pub ChangesIds : List (List ℕ) → Area → Area → Type 0
+ChangesIds keys old new = (name : List ℕ) → ((key : List ℕ) → Contains keys key → (name ≢ state_name key) × (owner name ≢ Some key))
+    → get new name ≡ get old name
 
 -- each of the ids has an item behind commit c and up to commit k
 abbrev pub HaveItems : Catalog → (c k : ℕ) → List (List ℕ) → Type 0

@@ -13,10 +13,10 @@ ghost use Rattle.cursor_doc.specs.declared.mark.Mark.{Mark};
 ghost use Rattle.fold_core.specs.Docs.{index_name, owner};
 ghost use Rattle.fold_core.specs.Sound.{IsLinkedAt};
 ghost use Rattle.fold_core.specs.Folds.{Clean, Fold, Look, made_at};
-ghost use Rattle.hive_laws.specs.Areas.{IsHiveArea, IsHiveName, IsSoundArea, SettledArea, SoundArea, cursor_of};
+ghost use Rattle.hive_laws.specs.Areas.{IsHiveArea, IsHiveName, IsSoundArea, SettledArea, SoundArea, cursor_at};
 ghost use Rattle.hive_laws.specs.FoldLaws.{FoldLaws};
 ghost use Rattle.hive_laws.specs.Plans.{PassPlan};
-ghost use Rattle.hive_laws.specs.Rounds.{AreDue, AreLed, ChangesOneId, HaveItems, IsOnTheWay, StartsAreaPass, plan_calls};
+ghost use Rattle.hive_laws.specs.Rounds.{AreDue, AreLed, ChangesIds, ChangesOneId, HaveItems, IsOnTheWay, StartsAreaPass, plan_calls};
 ghost use Rattle.hive_laws.specs.Steps.{with_found};
 
 /// The area of a hive that hasn't begun, and that of a catalog that grows. It does nothing.
@@ -55,9 +55,11 @@ pub fn rounds_settle_areas()
         → HaveItems cs c (length cs) keys → AreLed f cs (length cs) keys m new → SoundArea f cs c new }
     ensures on_the_way { (f : Fold) (cs : Catalog) → FoldLaws f cs → (c : ℕ) (keys : List (List ℕ)) (m left : Area) → SoundArea f cs c m
         → HaveItems cs c (length cs) keys → IsOnTheWay f cs (length cs) keys m left → SoundArea f cs c left }
+    ensures others { (f : Fold) (cs : Catalog) → FoldLaws f cs → (c : ℕ) (keys : List (List ℕ)) (m left : Area) → SoundArea f cs c m
+        → HaveItems cs c (length cs) keys → IsOnTheWay f cs (length cs) keys m left → ChangesIds keys m left }
     ensures settled { (f : Fold) (cs : Catalog) → FoldLaws f cs → (c : ℕ) (keys : List (List ℕ)) (m new : Area) → SoundArea f cs c m
         → AreDue cs c (length cs) keys → AreLed f cs (length cs) keys m new
-        → (bytes : List ℕ) → cursor_of cs (length cs) ≡ Some bytes → SettledArea f cs (length cs) (with_blob cursor_name bytes new) }
+        → (bytes : List ℕ) → cursor_at cs (length cs) ≡ Some bytes → SettledArea f cs (length cs) (with_blob cursor_name bytes new) }
 {}
 
 /// What is held in the area of a sound hive: each document is that of a prefix of the catalog that reaches the cursor, an index with all
