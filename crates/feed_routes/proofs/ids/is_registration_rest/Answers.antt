@@ -1,0 +1,25 @@
+use Rattle.std.proofs.Common.{List, ℕ, false, refl}
+use Rattle.std.proofs.lemmas.Result.{IfOk-weaker}
+use Rattle.feed_routes.specs.Names.{IsRegistrationTail}
+use Rattle.feed_routes.specs.Segments.{IsIdKey}
+use Rattle.feed_routes.proofs.Cutting.{off_on, pair_is, pair_none, pair_not}
+use Rattle.feed_routes.proofs.Keys.{free_id_key}
+use Rattle.feed_routes.proofs.ids.is_registration_rest.Goals as goal
+
+abbrev behind : List ℕ → List ℕ → Type 0
+behind id tail = IsRegistrationTail tail
+
+pub returns-in_default : goal.returns-in_default
+returns-in_default c = pair_none IsIdKey behind free_id_key c.args.rest.now false c.in_default.ensures.first refl
+
+pub returns-then-branch : goal.returns-then-branch
+returns-then-branch c =
+    IfOk-weaker c.is_registration_tail.result _ _
+    (λ is h. pair_is IsIdKey behind free_id_key c.args.rest.now c.in-Some.id.now c.in-Some.tail.now is
+    c.in-Some.ensures.found c.in-Some.ensures.first (c.in_ok-is_id_key.ensures.0 c.if-branch.true) h)
+    c.is_registration_tail.ensures
+
+pub returns-else-branch : goal.returns-else-branch
+returns-else-branch c =
+    pair_not IsIdKey behind free_id_key c.args.rest.now c.in-Some.id.now c.in-Some.tail.now false c.in-Some.ensures.first
+    (λ k. off_on c.in_ok-is_id_key.field-0 c.if-branch.false (c.in_ok-is_id_key.ensures.1 k)) refl

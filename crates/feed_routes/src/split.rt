@@ -1,0 +1,48 @@
+// Splitting a text.
+ghost use Rattle.std.specs.Prelude.{◌≡◌, ◌∷◌, ◌++◌, ℕ, List, IfSome, MatchOption};
+ghost use Rattle.feed_routes.specs.Cuts.{IsFree, target_path, target_query};
+
+// The path and the query of a target.
+pub(crate) fn at_query(target: &str) -> (&str, &str)
+    ensures path { result.0.now ≡ target_path target.now }
+    ensures query { result.1.now ≡ target_query target.now }
+{
+    match target.split_once('?') {
+        Some((path, query)) => (path, query),
+        None => (target, ""),
+    }
+}
+
+// What stands before and behind the first slash.
+pub(crate) fn at_slash(text: &str) -> Option<(&str, &str)>
+    ensures found { IfSome result (λ p. text.now ≡ p.0.now ++ (47 ∷ p.1.now)) }
+    ensures first { (front back : List ℕ) → IsFree 47 front → text.now ≡ front ++ (47 ∷ back)
+        → MatchOption result ⊥ (λ p. (p.0.now ≡ front) × (p.1.now ≡ back)) }
+{
+    text.split_once('/')
+}
+
+// What stands behind the prefix.
+pub(crate) fn after_prefix<'a>(text: &'a str, prefix: &str) -> Option<&'a str>
+    ensures { MatchOption result ((rest : List ℕ) → text.now ≡ prefix.now ++ rest → ⊥)
+        (λ rest. text.now ≡ prefix.now ++ rest.now) }
+{
+    text.strip_prefix(prefix)
+}
+
+// What stands before the suffix.
+pub(crate) fn before_suffix<'a>(text: &'a str, suffix: &str) -> Option<&'a str>
+    ensures { MatchOption result ((front : List ℕ) → text.now ≡ front ++ suffix.now → ⊥)
+        (λ front. text.now ≡ front.now ++ suffix.now) }
+{
+    text.strip_suffix(suffix)
+}
+
+// What stands between the prefix and the suffix.
+pub(crate) fn between<'a>(text: &'a str, prefix: &str, suffix: &str) -> Option<&'a str>
+    ensures { MatchOption result ((middle : List ℕ) → text.now ≡ prefix.now ++ (middle ++ suffix.now) → ⊥)
+        (λ middle. text.now ≡ prefix.now ++ (middle.now ++ suffix.now)) }
+{
+    let rest = after_prefix(text, prefix)?;
+    before_suffix(rest, suffix)
+}
