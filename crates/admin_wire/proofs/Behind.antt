@@ -28,12 +28,14 @@ read_on IsPart body rest back piece before c r e is = record {
   parts = parts_more IsPart r.front piece before c r.parts is;
 }
 
-pub at_end : (IsPart : List ℕ → Change → Type 0) (body rest : List ℕ) (before : List Change) → IsReadTo IsPart body rest before → rest ≡ [] → AreJoined IsPart body before
+pub at_end : (IsPart : List ℕ → Change → Type 0) (body rest : List ℕ) (before : List Change) → IsReadTo IsPart body rest before → rest ≡ []
+    → AreJoined IsPart body before
 at_end IsPart body rest before r e =
     let whole : r.front ≡ body = sym (append-nil r.front) ∙ ap (λ (l : List ℕ). r.front ++ l) (sym e) ∙ sym r.split in
     subst (λ (l : List ℕ). AreJoined IsPart l before) whole r.parts
 
-pub stops_at : (IsPart : List ℕ → Change → Type 0) (Refuses : ℕ → ℕ → List ℕ → BodyErr → Type 0) (body rest : List ℕ) (before : List Change) (at place : ℕ) (e : BodyErr)
+pub stops_at : (IsPart : List ℕ → Change → Type 0) (Refuses : ℕ → ℕ → List ℕ → BodyErr → Type 0) (body rest : List ℕ) (before : List Change) (at place : ℕ)
+    (e : BodyErr)
     → IsReadTo IsPart body rest before → rest ≢ [] → at ≡ length body - length rest → place ≡ length before → Refuses at place rest e
     → IsRefusedBehind IsPart Refuses body e
 stops_at IsPart Refuses body rest before at place e r more is_at is_place refused =

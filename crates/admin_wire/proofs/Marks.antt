@@ -76,7 +76,8 @@ seam mark front back lacks =
     let long = length-append front (mark ∷ back) in
     rw at (grind (arith, long))
 
-pub first_at : (mark : ℕ) (bytes front back : List ℕ) → Lacks front mark → bytes ≡ front ++ (mark ∷ back) → position (λ b. b == mark) bytes ≡ Some (length front)
+pub first_at : (mark : ℕ) (bytes front back : List ℕ) → Lacks front mark → bytes ≡ front ++ (mark ∷ back)
+    → position (λ b. b == mark) bytes ≡ Some (length front)
 first_at mark bytes front back lacks e = rw e (seam mark front back lacks)
 
 -- what stands before and behind the mark
@@ -91,7 +92,8 @@ pieces_at mark at bytes front back e same =
 pub one_seam : (mark : ℕ) (bytes front back other rest : List ℕ) → Lacks front mark → Lacks other mark → bytes ≡ front ++ (mark ∷ back)
     → bytes ≡ other ++ (mark ∷ rest) → (front ≡ other) × (back ≡ rest)
 one_seam mark bytes front back other rest first second e f =
-    let same : length front ≡ length other = some_same (length front) (length other) (sym (first_at mark bytes front back first e) ∙ first_at mark bytes other rest second f) in
+    let same : length front ≡ length other =
+    some_same (length front) (length other) (sym (first_at mark bytes front back first e) ∙ first_at mark bytes other rest second f) in
     let p = pieces_at mark (length front) bytes front back e refl in
     let q = pieces_at mark (length front) bytes other rest f same in
     (sym p.0 ∙ q.0, sym p.1 ∙ q.1)

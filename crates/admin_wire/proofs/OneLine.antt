@@ -30,11 +30,13 @@ same_line p t q u id version name text l k e =
     record {
       ids = words.0;
       versions = words.1;
-      lines = l.text ∙ ap (λ (i : List ℕ). i ++ (32 ∷ (version ++ (10 ∷ [])))) words.0 ∙ ap (λ (v : List ℕ). name ++ (32 ∷ (v ++ (10 ∷ [])))) words.1 ∙ sym k.text;
+      lines = l.text ∙ ap (λ (i : List ℕ). i ++ (32 ∷ (version ++ (10 ∷ [])))) words.0 ∙ ap (λ (v : List ℕ). name ++ (32 ∷ (v ++ (10 ∷ [])))) words.1
+          ∙ sym k.text;
       rests = lines.1;
     }
 
-pub asked_unrefused : (kind : NameKind) (place : ℕ) (id version : List ℕ) (c : Change) (e : BodyErr) → IsAsked kind id version c → IsRefusedPair place id version e → ⊥
+pub asked_unrefused : (kind : NameKind) (place : ℕ) (id version : List ℕ) (c : Change) (e : BodyErr) → IsAsked kind id version c
+    → IsRefusedPair place id version e → ⊥
 asked_unrefused kind place id version c e a (bad_id is none) = none (subst IsShortId a.id_text (a.the_id.spelled, a.the_id.short))
 asked_unrefused kind place id version c e a (bad_version is short none) = none a.the_version a.spelled
 
@@ -44,11 +46,13 @@ one_pair place id version d e (bad_id is none) (bad_version too short other) = a
 one_pair place id version d e (bad_version is short none) (bad_id too other) = absurd (other short)
 one_pair place id version d e (bad_version is short none) (bad_version too also other) = is ∙ sym too
 
-line_clash : (kind : NameKind) (at place : ℕ) (p t bytes : List ℕ) (c : Change) (e : BodyErr) → bytes ≡ p ++ t → IsLineOf kind p c → IsRefusedLine at place bytes e → ⊥
+line_clash : (kind : NameKind) (at place : ℕ) (p t bytes : List ℕ) (c : Change) (e : BodyErr) → bytes ≡ p ++ t → IsLineOf kind p c
+    → IsRefusedLine at place bytes e → ⊥
 line_clash kind at place p t bytes c e s l (shape is none) = none p t l.id l.version s l.whole
 line_clash kind at place p t bytes c e s l (pair front back id version split line refused) =
     let w = same_line p t front back l.id l.version id version l.whole line (sym s ∙ split) in
-    asked_unrefused kind place id version c e (subst (λ (i : List ℕ). IsAsked kind i version c) w.ids (subst (λ (v : List ℕ). IsAsked kind l.id v c) w.versions l.asks)) refused
+    asked_unrefused kind place id version c e
+    (subst (λ (i : List ℕ). IsAsked kind i version c) w.ids (subst (λ (v : List ℕ). IsAsked kind l.id v c) w.versions l.asks)) refused
 
 one_line : (at place : ℕ) (bytes : List ℕ) (d e : BodyErr) → IsRefusedLine at place bytes d → IsRefusedLine at place bytes e → d ≡ e
 one_line at place bytes d e (shape is none) (shape too other) = is ∙ sym too

@@ -18,7 +18,11 @@ use Rattle.admin_wire.proofs.OneStop.{IsDetermined}
 
 record_filled : (p m n k : List ℕ) → IsRecord p m n k → p ≢ []
 record_filled p m n k r e =
-    absurd (omega (arith, ap length (sym r.text ∙ e), length-append (decimal (length m)) (32 ∷ (decimal (length n) ++ (32 ∷ (decimal (length k) ++ (10 ∷ (m ++ (n ++ k)))))))))
+    absurd (omega (
+      arith,
+      ap length (sym r.text ∙ e),
+      length-append (decimal (length m)) (32 ∷ (decimal (length n) ++ (32 ∷ (decimal (length k) ++ (10 ∷ (m ++ (n ++ k))))))),
+    ))
 
 cut_same : (x y v w : List ℕ) → length x ≡ length v → x ++ y ≡ v ++ w → (x ≡ v) × (y ≡ w)
 cut_same x y v w n e = (
@@ -32,8 +36,11 @@ same_numbers a b c x y z af bf cf xf yf zf e =
     let p = one_seam 32 (spaced a b c) (decimal a) (decimal b ++ (32 ∷ decimal c)) (decimal x) (decimal y ++ (32 ∷ decimal z))
     (lacks_decimal 32 a (omega arith) (omega arith)) (lacks_decimal 32 x (omega arith) (omega arith)) refl e in
     let q = one_seam 32 (decimal b ++ (32 ∷ decimal c)) (decimal b) (decimal c) (decimal y) (decimal z)
-    (lacks_decimal 32 b (omega arith) (omega arith)) (lacks_decimal 32 y (omega arith) (omega arith)) refl p.1 in
-    (decimal_injective a x (omega arith) (omega arith) p.0, decimal_injective b y (omega arith) (omega arith) q.0, decimal_injective c z (omega arith) (omega arith) q.1)
+    (lacks_decimal 32 b (omega arith) (omega arith)) (lacks_decimal 32 y (omega arith) (omega arith)) refl p.1 in (
+      decimal_injective a x (omega arith) (omega arith) p.0,
+      decimal_injective b y (omega arith) (omega arith) q.0,
+      decimal_injective c z (omega arith) (omega arith) q.1,
+    )
 
 -- the same bytes begin with the same parts
 pub record AreSameParts (p t q u m n k x y z : List ℕ) : Type 0 where

@@ -28,7 +28,8 @@ excluded P R f at place bytes front back (d ∷ ds) [] e read more r s parts =
     let whole : read.0 ++ (read.1 ++ back) ≡ [] = sym (append_assoc read.0 read.1 back) ∙ ap (λ (l : List ℕ). l ++ back) (sym read.2) ∙ sym s ∙ parts in
     f.filled read.0 d read.3 (no_front read.0 (read.1 ++ back) whole)
 excluded P R f at place bytes front back (d ∷ ds) (c ∷ cs) e read more r s parts =
-    let whole : read.0 ++ (read.1 ++ back) ≡ parts.0 ++ parts.1 = sym (append_assoc read.0 read.1 back) ∙ ap (λ (l : List ℕ). l ++ back) (sym read.2) ∙ sym s ∙ parts.2 in
+    let whole : read.0 ++ (read.1 ++ back) ≡ parts.0 ++ parts.1 = sym (append_assoc read.0 read.1 back) ∙ ap (λ (l : List ℕ). l ++ back) (sym read.2) ∙ sym s
+    ∙ parts.2 in
     let p = f.step read.0 (read.1 ++ back) parts.0 parts.1 d c read.3 parts.3 whole in
     excluded P R f at place parts.1 read.1 back ds cs e read.4 more r (sym p.1) parts.4
 

@@ -27,7 +27,8 @@ asked_of kind id version id_text version_text c (inl first) (inl second) a = rec
   spelled = subst (λ (t : List ℕ). Spells t a.the_version) second a.spelled;
   change = a.change;
 }
-asked_of kind id version id_text version_text c (inl first) (inr second) a = absurd (no_version a.the_version (subst (λ (t : List ℕ). Spells t a.the_version) second.1 a.spelled))
+asked_of kind id version id_text version_text c (inl first) (inr second) a =
+    absurd (no_version a.the_version (subst (λ (t : List ℕ). Spells t a.the_version) second.1 a.spelled))
 asked_of kind id version id_text version_text c (inr first) second a = absurd (no_id (subst IsShortId (a.id_text ∙ first.1) (a.the_id.spelled, a.the_id.short)))
 
 -- the id of the text is the id of the bytes
@@ -46,4 +47,5 @@ unspelled version text (inr other) none v s = other.0 (utf8_version version v s)
 pub refused_of : (place : ℕ) (id version id_text version_text : List ℕ) (e : BodyErr) → IsText id_text id → IsText version_text version
     → IsRefusedPair place id_text version_text e → IsRefusedPair place id version e
 refused_of place id version id_text version_text e first second (bad_id is none) = bad_id is (none_of id id_text first none)
-refused_of place id version id_text version_text e first second (bad_version is short none) = bad_version is (short_of id id_text first short) (unspelled version version_text second none)
+refused_of place id version id_text version_text e first second (bad_version is short none) =
+    bad_version is (short_of id id_text first short) (unspelled version version_text second none)

@@ -17,6 +17,6 @@ pub use error::BodyErr;
 pub use laws::bodies_have_one_answer;
 pub use line::{Generated, Line, Refusal};
 pub use line_numbers::{line_http, line_status};
-pub use line_text::line_bytes;
+pub use line_text::{MEMORY_LINE, line_bytes};
 pub use names::{NameKind, read_names, read_pair};
 pub use records::read_publish;

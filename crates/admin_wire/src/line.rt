@@ -89,4 +89,6 @@ pub enum Refusal {
     Served,
     /// This line of the script has no meaning.
     Line(u64),
+    /// It isn't answered yet.
+    Unsupported,
 }

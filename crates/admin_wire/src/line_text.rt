@@ -9,6 +9,9 @@ use fold_core::HiveName;
 use pkg_meta::{Bytes, MetaErr, NoMemory, Text, Ticks};
 use std::alloc::Global;
 
+/// The line for want of memory, which may be needed where no bytes can be made.
+pub const MEMORY_LINE: &str = "memory\n";
+
 fn number_line(alloc: Global, words: &str, n: u64) -> Result<Bytes, NoMemory>
     ensures { IfOk result (λ b. b ≡ number_text words.now n) }
 {
@@ -125,6 +128,7 @@ fn refusal_bytes(alloc: Global, why: &Refusal) -> Result<Bytes, NoMemory>
         Refusal::NotEmpty(commits) => number_line(alloc, "refused notempty", u64::from(*commits)),
         Refusal::Served => Bytes::copy_of(alloc, b"refused served\n"),
         Refusal::Line(n) => number_line(alloc, "refused line", *n),
+        Refusal::Unsupported => Bytes::copy_of(alloc, b"refused unsupported\n"),
     }
 }
 
@@ -149,6 +153,6 @@ pub fn line_bytes(alloc: Global, line: &Line) -> Result<Bytes, NoMemory>
         Line::FaultInput => Bytes::copy_of(alloc, b"fault input\n"),
         Line::Damaged(area, name) => damaged_line(alloc, *area, name.as_str()),
         Line::TooLong => Bytes::copy_of(alloc, b"toolong\n"),
-        Line::Memory => Bytes::copy_of(alloc, b"memory\n"),
+        Line::Memory => Bytes::copy_of(alloc, MEMORY_LINE.as_bytes()),
     }
 }

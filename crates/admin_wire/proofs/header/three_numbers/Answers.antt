@@ -38,4 +38,5 @@ pub returns : goal.returns
 returns c = λ l a b d e.
     let h = c.in_ok-first.ensures.first (decimal l.meta) (behind_first l) (lacks_decimal 32 l.meta (omega arith) (omega arith)) e in
     let k = c.in_ok-second.ensures.first (decimal l.nuspec) (decimal l.nupkg) (lacks_decimal 32 l.nuspec (omega arith) (omega arith)) h.1 in
-    same_lengths c.in_ok-meta.meta c.in_ok-nuspec.nuspec c.in_ok-nupkg.nupkg l (c.in_ok-meta.ensures l.meta a h.0) (c.in_ok-nuspec.ensures l.nuspec b k.0) (c.in_ok-nupkg.ensures l.nupkg d k.1)
+    same_lengths c.in_ok-meta.meta c.in_ok-nuspec.nuspec c.in_ok-nupkg.nupkg l (c.in_ok-meta.ensures l.meta a h.0) (c.in_ok-nuspec.ensures l.nuspec b k.0)
+    (c.in_ok-nupkg.ensures l.nupkg d k.1)

@@ -13,13 +13,23 @@ returns-in_err-read_pair-clause-refused c =
     let l = c.in-Some.ensures.found in
     let more : c.loop-rest.rest.now ≢ [] = λ e. grind (arith, nat_tests) in
     rw (p.1, p.2) (λ other.
-    stops_at (IsLineOf c.args.kind) IsRefusedLine c.args.body.now c.loop-rest.rest.now c.loop-rest.changes (length c.args.body.now - length c.loop-rest.rest.now)
+    stops_at (IsLineOf c.args.kind) IsRefusedLine c.args.body.now c.loop-rest.rest.now c.loop-rest.changes
+    (length c.args.body.now - length c.loop-rest.rest.now)
     c.len-place.result c.in_err-read_pair.field-0.0 c.loop-rest.invariant more refl c.len-place.ensures
-    (pair l.0 c.in-Some.behind.now c.in-Some.id.now c.in-Some.version.now l.1 l.2 (refused_of c.len-place.result c.in-Some.id.now c.in-Some.version.now c.text_or_empty-id.result.now c.text_or_empty-version.result.now c.in_err-read_pair.field-0.0 c.text_or_empty-id.ensures c.text_or_empty-version.ensures (c.in_err-read_pair.ensures.refused other))))
+    (pair l.0 c.in-Some.behind.now c.in-Some.id.now c.in-Some.version.now l.1 l.2
+    (refused_of c.len-place.result c.in-Some.id.now c.in-Some.version.now c.text_or_empty-id.result.now c.text_or_empty-version.result.now
+    c.in_err-read_pair.field-0.0 c.text_or_empty-id.ensures c.text_or_empty-version.ensures (c.in_err-read_pair.ensures.refused other))))
 
 pub loop-rest-preserved : goal.loop-rest-preserved
 loop-rest-preserved c =
     let l = c.in-Some.ensures.found in
     rw c.in_ok-push.ensures.ok
-    (read_on (IsLineOf c.args.kind) c.args.body.now c.loop-rest.rest.now c.in-Some.behind.now l.0 c.loop-rest.changes c.in_ok-read_pair.field-0 c.loop-rest.invariant l.1
-    (record { id = c.in-Some.id.now; version = c.in-Some.version.now; whole = l.2; asks = asked_of c.args.kind c.in-Some.id.now c.in-Some.version.now c.text_or_empty-id.result.now c.text_or_empty-version.result.now c.in_ok-read_pair.field-0 c.text_or_empty-id.ensures c.text_or_empty-version.ensures c.in_ok-read_pair.ensures.ok }))
+    (read_on (IsLineOf c.args.kind) c.args.body.now c.loop-rest.rest.now c.in-Some.behind.now l.0 c.loop-rest.changes c.in_ok-read_pair.field-0
+    c.loop-rest.invariant l.1
+    (record {
+      id = c.in-Some.id.now;
+      version = c.in-Some.version.now;
+      whole = l.2;
+      asks = asked_of c.args.kind c.in-Some.id.now c.in-Some.version.now c.text_or_empty-id.result.now c.text_or_empty-version.result.now
+          c.in_ok-read_pair.field-0 c.text_or_empty-id.ensures c.text_or_empty-version.ensures c.in_ok-read_pair.ensures.ok;
+    }))

@@ -10,7 +10,8 @@ use Rattle.admin_wire.proofs.names.read_pair.Goals as goal
 
 pub returns-in_default-2-clause-refused : goal.returns-in_default-2-clause-refused
 returns-in_default-2-clause-refused c = λ other.
-    let same : c.in-Some.id.text ≡ c.args.id.now = at_some c.in_ok-id.field-0 (λ (p : PackageId). p.text ≡ c.args.id.now) c.in-Some.id c.in-Some.is c.in_ok-id.ensures.found in
+    let same : c.in-Some.id.text ≡ c.args.id.now =
+    at_some c.in_ok-id.field-0 (λ (p : PackageId). p.text ≡ c.args.id.now) c.in-Some.id c.in-Some.is c.in_ok-id.ensures.found in
     bad_version refl (subst IsShortId same (c.in-Some.id.spelled, c.in-Some.id.short))
     (at_none c.in_ok-version.field-0 (IsNoVersion c.args.version.now) c.in_default-2.is c.in_ok-version.ensures.none)
 

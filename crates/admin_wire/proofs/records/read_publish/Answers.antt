@@ -10,7 +10,8 @@ use Rattle.admin_wire.proofs.records.read_publish.Goals as goal
 pub returns-in_err-publish_of-clause-refused : goal.returns-in_err-publish_of-clause-refused
 returns-in_err-publish_of-clause-refused c =
     let p = err_from_is_err_and c.from_residual-in_err-publish_of.result c.from_residual-in_err-publish_of.ensures.1 in
-    let f = at_some c.in_ok-record.field-0 (λ p. (x : List ℕ) × (c.loop-rest.rest.now ≡ x ++ p.rest.now) × IsRecord x p.meta.now p.nuspec.now p.nupkg.now) c.in-Some.record c.in-Some.is
+    let f = at_some c.in_ok-record.field-0
+    (λ p. (x : List ℕ) × (c.loop-rest.rest.now ≡ x ++ p.rest.now) × IsRecord x p.meta.now p.nuspec.now p.nupkg.now) c.in-Some.record c.in-Some.is
     c.in_ok-record.ensures.found in
     let more : c.loop-rest.rest.now ≢ [] = λ e. grind (arith, nat_tests) in
     rw (p.1, p.2) (λ other.
@@ -21,11 +22,13 @@ returns-in_err-publish_of-clause-refused c =
 
 pub loop-rest-preserved : goal.loop-rest-preserved
 loop-rest-preserved c =
-    let f = at_some c.in_ok-record.field-0 (λ p. (x : List ℕ) × (c.loop-rest.rest.now ≡ x ++ p.rest.now) × IsRecord x p.meta.now p.nuspec.now p.nupkg.now) c.in-Some.record c.in-Some.is
+    let f = at_some c.in_ok-record.field-0
+    (λ p. (x : List ℕ) × (c.loop-rest.rest.now ≡ x ++ p.rest.now) × IsRecord x p.meta.now p.nuspec.now p.nupkg.now) c.in-Some.record c.in-Some.is
     c.in_ok-record.ensures.found in
     let m = c.in_ok-publish_of.ensures.ok in
     rw c.in_ok-push.ensures.ok
-    (read_on IsRecordOf c.args.body.now c.loop-rest.rest.now c.in-Some.record.rest.now f.0 c.loop-rest.changes c.in_ok-publish_of.field-0 c.loop-rest.invariant f.1
+    (read_on IsRecordOf c.args.body.now c.loop-rest.rest.now c.in-Some.record.rest.now f.0 c.loop-rest.changes c.in_ok-publish_of.field-0
+    c.loop-rest.invariant f.1
     (record {
       meta = c.in-Some.record.meta.now;
       nuspec = c.in-Some.record.nuspec.now;
