@@ -1,5 +1,5 @@
 -- Where a text is cut at a mark.
-use Rattle.std.proofs.Common.{◌≡◌, ◌+◌, ◌-◌, ℕ, List, [], ◌∷◌, ◌++◌, length, take, drop, Some, not, refl, sym, ap, ◌∙◌, arith, length-append, length-drop, drop-cons, add-one, get_or, take-append-drop}
+use Rattle.std.proofs.Common.{◌≡◌, ◌+◌, ◌-◌, ℕ, List, [], ◌∷◌, ◌++◌, length, take, drop, Some, not, sym, ap, ◌∙◌, arith, length-append, length-drop, drop-cons, add-one, get_or, take-append-drop}
 use Rattle.std.specs.Prelude.{◌==◌}
 use Rattle.std.specs.List.{list_all, position, position_or_len}
 use Rattle.std.proofs.Math.Seq.{take-append_seam, drop-append-add, take-length}
@@ -21,7 +21,8 @@ seam mark front back free =
     let long = length-append front (mark ∷ back) in
     rw at (grind (arith, long))
 
-pub first_at : (mark : ℕ) (bytes front back : List ℕ) → IsFree mark front → bytes ≡ front ++ (mark ∷ back) → position (λ b. b == mark) bytes ≡ Some (length front)
+pub first_at : (mark : ℕ) (bytes front back : List ℕ) → IsFree mark front → bytes ≡ front ++ (mark ∷ back)
+    → position (λ b. b == mark) bytes ≡ Some (length front)
 first_at mark bytes front back free e = rw e (seam mark front back free)
 
 -- what stands before and behind the mark

@@ -1,5 +1,5 @@
 -- What follows where changes were to be committed, whatever the command.
-use Rattle.std.proofs.Common.{◌≡◌, ◌∙◌, ℕ, List, Option, inl, inr, refl, sym, subst}
+use Rattle.std.proofs.Common.{◌≡◌, ◌∙◌, ℕ, List, Option, ap, arith, inl, inr, refl, sym, subst}
 use Rattle.std.specs.Prelude.{Result, Ok, Err}
 use Rattle.pkg_meta.specs.Catalog.{Catalog}
 use Rattle.catalog_doc.specs.declared.change.Change.{Change}
@@ -7,16 +7,16 @@ use Rattle.catalog_doc.specs.declared.change.Committed.{Committed}
 use Rattle.catalog_doc.specs.declared.error.CommitErr.{CommitErr}
 use Rattle.catalog_doc.specs.declared.error.CommitErr.TheVariants as error
 use Rattle.catalog_core.specs.Committing.{MayBeCommitted}
+use Rattle.admin_wire.specs.declared.line.Line.TheVariants as line
+use Rattle.admin_wire.specs.declared.area.AreaName.TheVariants as area
+use Rattle.feed_app.specs.Answers.{answer_status}
 use Rattle.feed_app.specs.Frame.{Explains, Reach, Touches}
 use Rattle.feed_app.specs.Outside.{AreaRose, Members, Sight}
 use Rattle.feed_app.specs.Publishes.{commit_reply, CommitsAt, Ends}
 use Rattle.feed_app.specs.Spelled.{HasCatalog}
 use Rattle.feed_app.specs.declared.answer.Answer.{Answer}
-use Rattle.feed_app.specs.declared.answer.Answer.TheVariants.{Refused, Fault, Damaged}
-use Rattle.feed_app.specs.declared.answer.Refusal.{Refusal}
-use Rattle.feed_app.specs.declared.area.AreaName.{AreaName}
-use Rattle.feed_app.specs.declared.area.AreaName.TheVariants as area
-use Rattle.feed_app.proofs.Closed.{closed_explains}
+use Rattle.feed_app.specs.declared.answer.Answer.TheVariants.{Reply}
+use Rattle.feed_app.proofs.Closed.{closed_explains, of_store_not}
 use Rattle.feed_app.proofs.Endings.{not_damaged, not_refused}
 
 module _ {B : Type 0} (m : Members B) (before after : Sight B) (reach : Reach) (touches : Touches reach.catalog) where
@@ -24,7 +24,8 @@ module _ {B : Type 0} (m : Members B) (before after : Sight B) (reach : Reach) (
   Explained answer = Explains m reach before answer after
 
   commit_explains : (changes : List Change) (now : ℕ) (r : Result Committed CommitErr)
-      → (commit_reply r ≡ Fault area.Catalog → AreaRose m before.stores.catalog after.stores.catalog) → CommitsAt changes now (m.seen before.stores.catalog) (m.seen after.stores.catalog) r → Explained (commit_reply r)
+      → (commit_reply r ≡ Reply (line.Fault area.Catalog) → AreaRose m before.stores.catalog after.stores.catalog)
+      → CommitsAt changes now (m.seen before.stores.catalog) (m.seen after.stores.catalog) r → Explained (commit_reply r)
   commit_explains changes now (Ok done) rose is = tt
   commit_explains changes now (Err error.Fault) rose is = (touches, rose refl)
   commit_explains changes now (Err (error.Damaged name)) rose is = (touches, λ base cs has. is.commits base cs has)
@@ -40,10 +41,10 @@ module _ {B : Type 0} (m : Members B) (before after : Sight B) (reach : Reach) (
   commit_explains changes now (Err error.ClockEnd) rose is = tt
 
   -- changes that were asked for
-  pub end_explains : (changes : List Change) (told later : Option (List ℕ)) (answer : Answer) → (answer ≡ Fault area.Catalog → AreaRose m before.stores.catalog after.stores.catalog)
+  pub end_explains : (changes : List Change) (told later : Option (List ℕ)) (answer : Answer)
+      → (answer ≡ Reply (line.Fault area.Catalog) → AreaRose m before.stores.catalog after.stores.catalog)
       → Ends answer changes (m.seen before.stores.catalog) (m.seen after.stores.catalog) told later → Explained answer
-  end_explains changes told later answer rose (inl (inl closed, spelled, unasked)) = closed_explains m reach before after answer touches rose closed
-  end_explains changes told later answer rose (inl (inr memory, spelled, unasked)) = subst Explained (sym memory) tt
+  end_explains changes told later answer rose (inl (closed, spelled, unasked)) = closed_explains m reach before after answer touches rose closed
   end_explains changes told later answer rose (inr (now, r, tells, is, commits)) =
       subst Explained (sym is) (commit_explains changes now r (λ fault. rose (is ∙ fault)) commits)
 
@@ -53,13 +54,14 @@ module _ {B : Type 0} (m : Members B) (before after : Sight B) (base : List ℕ)
   EndsSo answer = Ends answer changes (m.seen before.stores.catalog) (m.seen after.stores.catalog) told later
 
   -- changes that may be committed aren't refused
-  pub end_taken : ((now : ℕ) → MayBeCommitted cs changes now) → (why : Refusal) → EndsSo (Refused why) → ⊥
-  end_taken taken why (inl (inl closed, spelled, unasked)) = closed.of_store base cs has
-  end_taken taken why (inl (inr memory, spelled, unasked)) = cc memory
-  end_taken taken why (inr (now, r, tells, is, commits)) =
-      not_refused cs changes now (HasCatalog (m.seen after.stores.catalog) base) why r (taken now) (sym is) (commits.commits base cs has)
+  pub end_taken : ((now : ℕ) → MayBeCommitted cs changes now) → (answer : Answer) → EndsSo answer → answer_status answer ≡ 3 → ⊥
+  end_taken taken answer (inl (closed, spelled, unasked)) three =
+      of_store_not answer 3 (closed.of_store base cs has) three (λ e. omega (arith, e)) (λ e. omega (arith, e))
+  end_taken taken answer (inr (now, r, tells, is, commits)) three =
+      not_refused cs changes now (HasCatalog (m.seen after.stores.catalog) base) r (taken now) (sym (ap answer_status is) ∙ three) (commits.commits base cs has)
 
-  pub end_sound : (name : AreaName) (blob : List ℕ) → EndsSo (Damaged name blob) → ⊥
-  end_sound name blob (inl (inl closed, spelled, unasked)) = closed.of_store base cs has
-  end_sound name blob (inl (inr memory, spelled, unasked)) = cc memory
-  end_sound name blob (inr (now, r, tells, is, commits)) = not_damaged cs changes now (HasCatalog (m.seen after.stores.catalog) base) name blob r (sym is) (commits.commits base cs has)
+  pub end_sound : (answer : Answer) → EndsSo answer → answer_status answer ≡ 6 → ⊥
+  end_sound answer (inl (closed, spelled, unasked)) six =
+      of_store_not answer 6 (closed.of_store base cs has) six (λ e. omega (arith, e)) (λ e. omega (arith, e))
+  end_sound answer (inr (now, r, tells, is, commits)) six =
+      not_damaged cs changes now (HasCatalog (m.seen after.stores.catalog) base) r (sym (ap answer_status is) ∙ six) (commits.commits base cs has)

@@ -15,38 +15,29 @@ use Rattle.catalog_core.specs.Committing.{Commits, MayBeCommitted, with_made, Wi
 use Rattle.catalog_core.specs.Opened.{IsOpenFor, Opened}
 use Rattle.catalog_items.proofs.Getting.{leaves_then}
 use Rattle.catalog_core.proofs.Frames.{known_store}
-use Rattle.feed_app.specs.Answers.{status_of}
+use Rattle.admin_wire.specs.declared.line.Line.TheVariants as line
+use Rattle.admin_wire.specs.declared.area.AreaName.TheVariants as area
+use Rattle.feed_app.specs.Answers.{answer_status}
 use Rattle.feed_app.specs.Causes.{commit_answer}
 use Rattle.feed_app.specs.Publishes.{commit_reply, CommitsAt}
 use Rattle.feed_app.specs.Spelled.{HasCatalog, IsOpenOver, StaysSpelled}
-use Rattle.feed_app.specs.declared.answer.Answer.TheVariants as answer
-use Rattle.feed_app.specs.declared.answer.Refusal.{Refusal}
-use Rattle.feed_app.specs.declared.area.AreaName.{AreaName}
-use Rattle.feed_app.specs.declared.area.AreaName.TheVariants as area
+use Rattle.feed_app.specs.declared.answer.Answer.TheVariants.{Reply}
 
-pub fault_by : (e : CommitErr) → commit_answer e ≡ answer.Fault area.Catalog → e ≡ Fault
+pub fault_by : (e : CommitErr) → commit_answer e ≡ Reply (line.Fault area.Catalog) → e ≡ Fault
 fault_by Fault is = refl
-fault_by (Damaged name) is = cc is
-fault_by Memory is = cc is
-fault_by Empty is = cc is
-fault_by (TooMany count) is = cc is
-fault_by (Twice place) is = cc is
-fault_by (Exists place number) is = cc is
-fault_by (Absent place number) is = cc is
-fault_by (Already place number) is = cc is
-fault_by (IdFull place) is = cc is
-fault_by (Full items) is = cc is
-fault_by ClockEnd is = cc is
+fault_by _ is = cc is
 
 abbrev told : CommitErr → Result Committed CommitErr
 told e = Err e
 
 -- what a commit says of a catalog, of a weaker fact
-with_as : (cs : Catalog) (changes : List Change) (now : ℕ) (P Q : Catalog → Type 0) → ((ds : Catalog) → P ds → Q ds) → WithOrWithout cs changes now P → WithOrWithout cs changes now Q
+with_as : (cs : Catalog) (changes : List Change) (now : ℕ) (P Q : Catalog → Type 0) → ((ds : Catalog) → P ds → Q ds) → WithOrWithout cs changes now P
+    → WithOrWithout cs changes now Q
 with_as cs changes now P Q to (inl p) = inl (to cs p)
 with_as cs changes now P Q to (inr (taken, p)) = inr (taken, to (with_made cs changes now) p)
 
-pub commits_as : (cs : Catalog) (changes : List Change) (now : ℕ) (r : Result Committed CommitErr) (P Q : Catalog → Type 0) → ((ds : Catalog) → P ds → Q ds) → Commits cs changes now r P → Commits cs changes now r Q
+pub commits_as : (cs : Catalog) (changes : List Change) (now : ℕ) (r : Result Committed CommitErr) (P Q : Catalog → Type 0) → ((ds : Catalog) → P ds → Q ds)
+    → Commits cs changes now r P → Commits cs changes now r Q
 commits_as cs changes now (Ok done) P Q to (taken, tells, p) = (taken, tells, to (with_made cs changes now) p)
 commits_as cs changes now (Err Fault) P Q to p = with_as cs changes now P Q to p
 commits_as cs changes now (Err (Damaged name)) P Q to p = p
@@ -62,7 +53,8 @@ commits_as cs changes now (Err (Full items)) P Q to (refused, p) = (refused, to 
 commits_as cs changes now (Err ClockEnd) P Q to (refused, p) = (refused, to cs p)
 
 -- whatever was answered, the catalog is there with the commit or without it
-pub with_or_without : (cs : Catalog) (changes : List Change) (now : ℕ) (r : Result Committed CommitErr) (P : Catalog → Type 0) → Commits cs changes now r P → WithOrWithout cs changes now P
+pub with_or_without : (cs : Catalog) (changes : List Change) (now : ℕ) (r : Result Committed CommitErr) (P : Catalog → Type 0) → Commits cs changes now r P
+    → WithOrWithout cs changes now P
 with_or_without cs changes now (Ok done) P (taken, tells, p) = inr (taken, p)
 with_or_without cs changes now (Err Fault) P p = p
 with_or_without cs changes now (Err (Damaged name)) P p = absurd p
@@ -78,7 +70,8 @@ with_or_without cs changes now (Err (Full items)) P (refused, p) = inl p
 with_or_without cs changes now (Err ClockEnd) P (refused, p) = inl p
 
 -- a commit of an open catalog, behind its opening
-pub commits_behind : {B : Type 0} (s now after : Seen) (o n : Opened B) (changes : List Change) (moment : ℕ) (r : Result Committed CommitErr) → StaysSpelled s now → IsOpenOver s o now → n.base ≡ o.base
+pub commits_behind : {B : Type 0} (s now after : Seen) (o n : Opened B) (changes : List Change) (moment : ℕ) (r : Result Committed CommitErr)
+    → StaysSpelled s now → IsOpenOver s o now → n.base ≡ o.base
     → ((cs : Catalog) → IsOpenFor o now cs → Commits cs changes moment r (IsOpenFor n after))
     → ((cs : Catalog) → IsOpenFor o now cs → LeavesOnly now after (λ left. WithOrWithout cs changes moment (SpellsCatalog left o.base)))
     → CommitsAt changes moment s after r
@@ -86,61 +79,43 @@ commits_behind s now after o n changes moment r first over same commits moments 
   commits = λ base cs has.
       let at = over base cs has in
       commits_as cs changes moment r (IsOpenFor n after) (HasCatalog after base)
-      (λ ds is. record { lawful = is.lawful; store = subst (λ (x : List ℕ). IsStoreOf after x ds) (same ∙ at.0) (known_store n after ds is) }) (commits cs at.1);
+      (λ ds is. record { lawful = is.lawful; store = subst (λ (x : List ℕ). IsStoreOf after x ds) (same ∙ at.0) (known_store n after ds is) })
+      (commits cs at.1);
   moments = λ base cs has.
       let at = over base cs has in
       leaves_then s now after (λ left. WithOrWithout cs changes moment (SpellsCatalog left base))
-      (weaker s now (λ left. SpellsCatalog left base cs) (λ left. WithOrWithout cs changes moment (SpellsCatalog left base)) (first.spelled base cs has).1 (λ left here. inl here))
+      (weaker s now (λ left. SpellsCatalog left base cs) (λ left. WithOrWithout cs changes moment (SpellsCatalog left base)) (first.spelled base cs has).1
+      (λ left here. inl here))
       (subst (λ (x : List ℕ). LeavesOnly now after (λ left. WithOrWithout cs changes moment (SpellsCatalog left x))) at.0 (moments cs at.1));
 }
 
 -- a commit that wasn't refused
-pub reply_done : (r : Result Committed CommitErr) → status_of (commit_reply r) ≡ 0 → (done : Committed) × (r ≡ Ok done)
+pub reply_done : (r : Result Committed CommitErr) → answer_status (commit_reply r) ≡ 0 → (done : Committed) × (r ≡ Ok done)
 reply_done (Ok done) is = (done, refl)
 reply_done (Err Fault) is = absurd (omega (arith, is))
 reply_done (Err (Damaged name)) is = absurd (omega (arith, is))
-reply_done (Err Memory) is = absurd (omega (arith, is))
-reply_done (Err Empty) is = absurd (omega (arith, is))
-reply_done (Err (TooMany count)) is = absurd (omega (arith, is))
-reply_done (Err (Twice place)) is = absurd (omega (arith, is))
-reply_done (Err (Exists place number)) is = absurd (omega (arith, is))
-reply_done (Err (Absent place number)) is = absurd (omega (arith, is))
-reply_done (Err (Already place number)) is = absurd (omega (arith, is))
-reply_done (Err (IdFull place)) is = absurd (omega (arith, is))
-reply_done (Err (Full items)) is = absurd (omega (arith, is))
-reply_done (Err ClockEnd) is = absurd (omega (arith, is))
+reply_done _ is = absurd (omega (arith, is))
 
 module _ (cs : Catalog) (changes : List Change) (now : ℕ) (P : Catalog → Type 0) where
   both : (e : CommitErr) → MayBeCommitted cs changes now → verdict cs changes now ≡ Err e → ⊥
   both e taken refused = cc (taken, refused)
 
   -- changes that are taken aren't refused
-  pub not_refused : (why : Refusal) (r : Result Committed CommitErr) → MayBeCommitted cs changes now → commit_reply r ≡ answer.Refused why → Commits cs changes now r P → ⊥
-  not_refused why (Ok done) taken is commits = cc is
-  not_refused why (Err Fault) taken is commits = cc is
-  not_refused why (Err (Damaged name)) taken is commits = commits
-  not_refused why (Err Memory) taken is commits = cc is
-  not_refused why (Err Empty) taken is commits = both Empty taken commits.0
-  not_refused why (Err (TooMany count)) taken is commits = both (TooMany count) taken commits.0
-  not_refused why (Err (Twice place)) taken is commits = both (Twice place) taken commits.0
-  not_refused why (Err (Exists place number)) taken is commits = both (Exists place number) taken commits.0
-  not_refused why (Err (Absent place number)) taken is commits = both (Absent place number) taken commits.0
-  not_refused why (Err (Already place number)) taken is commits = both (Already place number) taken commits.0
-  not_refused why (Err (IdFull place)) taken is commits = both (IdFull place) taken commits.0
-  not_refused why (Err (Full items)) taken is commits = both (Full items) taken commits.0
-  not_refused why (Err ClockEnd) taken is commits = both ClockEnd taken commits.0
+  pub not_refused : (r : Result Committed CommitErr) → MayBeCommitted cs changes now → answer_status (commit_reply r) ≡ 3 → Commits cs changes now r P → ⊥
+  not_refused (Ok done) taken is commits = omega (arith, is)
+  not_refused (Err Fault) taken is commits = omega (arith, is)
+  not_refused (Err (Damaged name)) taken is commits = commits
+  not_refused (Err Memory) taken is commits = omega (arith, is)
+  not_refused (Err Empty) taken is commits = both Empty taken commits.0
+  not_refused (Err (TooMany count)) taken is commits = both (TooMany count) taken commits.0
+  not_refused (Err (Twice place)) taken is commits = both (Twice place) taken commits.0
+  not_refused (Err (Exists place number)) taken is commits = both (Exists place number) taken commits.0
+  not_refused (Err (Absent place number)) taken is commits = both (Absent place number) taken commits.0
+  not_refused (Err (Already place number)) taken is commits = both (Already place number) taken commits.0
+  not_refused (Err (IdFull place)) taken is commits = both (IdFull place) taken commits.0
+  not_refused (Err (Full items)) taken is commits = both (Full items) taken commits.0
+  not_refused (Err ClockEnd) taken is commits = both ClockEnd taken commits.0
 
-  pub not_damaged : (name : AreaName) (blob : List ℕ) (r : Result Committed CommitErr) → commit_reply r ≡ answer.Damaged name blob → Commits cs changes now r P → ⊥
-  not_damaged name blob (Ok done) is commits = cc is
-  not_damaged name blob (Err Fault) is commits = cc is
-  not_damaged name blob (Err (Damaged other)) is commits = commits
-  not_damaged name blob (Err Memory) is commits = cc is
-  not_damaged name blob (Err Empty) is commits = cc is
-  not_damaged name blob (Err (TooMany count)) is commits = cc is
-  not_damaged name blob (Err (Twice place)) is commits = cc is
-  not_damaged name blob (Err (Exists place number)) is commits = cc is
-  not_damaged name blob (Err (Absent place number)) is commits = cc is
-  not_damaged name blob (Err (Already place number)) is commits = cc is
-  not_damaged name blob (Err (IdFull place)) is commits = cc is
-  not_damaged name blob (Err (Full items)) is commits = cc is
-  not_damaged name blob (Err ClockEnd) is commits = cc is
+  pub not_damaged : (r : Result Committed CommitErr) → answer_status (commit_reply r) ≡ 6 → Commits cs changes now r P → ⊥
+  not_damaged (Err (Damaged name)) is commits = commits
+  not_damaged _ is commits = omega (arith, is)

@@ -22,11 +22,14 @@ pub opened_spelled : {B : Type 0} (s now : Seen) (o : Opened B) → IsMended s.h
 opened_spelled s now o mended over moments = record {
   mended = mended;
   spelled = λ base cs has.
-      let at = over base cs has in
-      (record { lawful = has.lawful; store = subst (λ (x : List ℕ). IsStoreOf now x cs) at.0 (known_store o now cs at.1) }, moments base cs has.lawful has.store);
+      let at = over base cs has in (
+        record { lawful = has.lawful; store = subst (λ (x : List ℕ). IsStoreOf now x cs) at.0 (known_store o now cs at.1) },
+        moments base cs has.lawful has.store,
+      );
 }
 
-pub closed_spelled : (s now : Seen) (F : Type 0) (A : List ℕ → Type 0) → Mends s now F → ((b : List ℕ) (cs : Catalog) → IsCatalog cs → IsStoreOf s b cs → A b × IsStoreOf now b cs)
+pub closed_spelled : (s now : Seen) (F : Type 0) (A : List ℕ → Type 0) → Mends s now F
+    → ((b : List ℕ) (cs : Catalog) → IsCatalog cs → IsStoreOf s b cs → A b × IsStoreOf now b cs)
     → ((b : List ℕ) (cs : Catalog) → IsCatalog cs → IsStoreOf s b cs → KeepsSpelling s now b cs) → StaysSpelled s now
 closed_spelled s now F A mends refused moments = record {
   mended = mends.area;
@@ -34,14 +37,16 @@ closed_spelled s now F A mends refused moments = record {
 }
 
 -- behind an opening
-pub then_spelled : {B : Type 0} (s now after : Seen) (o n : Opened B) (F : Type 0) → StaysSpelled s now → IsOpenOver s o now → StaysOpen o n now after F → StaysSpelled s after
+pub then_spelled : {B : Type 0} (s now after : Seen) (o n : Opened B) (F : Type 0) → StaysSpelled s now → IsOpenOver s o now → StaysOpen o n now after F
+    → StaysSpelled s after
 then_spelled s now after o n F first over stays = record {
   mended = mended_then s.held now.held after.held first.mended stays.mends.area;
   spelled = λ base cs has.
       let at = over base cs has in
       let next = stays.open_for cs at.1 in (
         record { lawful = has.lawful; store = subst (λ (x : List ℕ). IsStoreOf after x cs) (stays.base ∙ at.0) (known_store n after cs next.open_for) },
-        leaves_then s now after (λ left. SpellsCatalog left base cs) (first.spelled base cs has).1 (subst (λ (x : List ℕ). KeepsSpelling now after x cs) at.0 next.moments),
+        leaves_then s now after (λ left. SpellsCatalog left base cs) (first.spelled base cs has).1
+            (subst (λ (x : List ℕ). KeepsSpelling now after x cs) at.0 next.moments),
       );
 }
 

@@ -4,8 +4,8 @@ use Rattle.std.specs.Prelude.{◌==◌}
 use Rattle.std.specs.Char.{is_ascii_lowercase}
 use Rattle.std.proofs.lemmas.Bool.Decides.{nat_tests}
 use Rattle.package_id.proofs.Bytes.{list_all_weaker}
-use Rattle.feed_app.specs.Bases.{IsName}
 use Rattle.feed_paths.specs.Cuts.{IsFree}
+use Rattle.feed_app.specs.Bases.{IsName}
 
 no_dot : (b : ℕ) → is_ascii_lowercase b ≡ true → not (b == 46) ≡ true
 no_dot b held = grind (arith, nat_tests)

@@ -6,10 +6,11 @@ use Rattle.std.specs.declared.alloc.Global.{Global}
 use Rattle.admin_wire.specs.Bodies.{IsAsked}
 use Rattle.admin_wire.specs.declared.names.NameKind.{NameKind}
 use Rattle.catalog_doc.specs.declared.change.Change.{Change}
+use Rattle.admin_wire.specs.declared.line.Line.TheVariants as line
 use Rattle.feed_app.specs.Commands.{Pair, pairs_of, texts}
 use Rattle.feed_app.specs.Names.{AreAsked, IsFirstNotAsked, NotAsked, NotRead}
 use Rattle.feed_app.specs.declared.answer.Answer.{Answer}
-use Rattle.feed_app.specs.declared.answer.Answer.TheVariants.{Done, Usage, Refused, Fault, FaultInput, Damaged, TooLong, Memory}
+use Rattle.feed_app.specs.declared.answer.Answer.TheVariants.{Reply}
 
 -- a pair more
 asked_more : (kind : NameKind) (front : List Pair) (pair : Pair) (before : List Change) (c : Change) → AreAsked kind front before → IsAsked kind pair.0 pair.1 c
@@ -41,13 +42,15 @@ read_on kind words rest behind pair before c r e is = record {
   asked = asked_more kind r.front pair before c r.asked is;
 }
 
-pub at_end : (kind : NameKind) (words rest : List (String Global)) (before : List Change) → AreReadTo kind words rest before → length rest < 2 → AreAsked kind (pairs_of (texts words)) before
+pub at_end : (kind : NameKind) (words rest : List (String Global)) (before : List Change) → AreReadTo kind words rest before → length rest < 2
+    → AreAsked kind (pairs_of (texts words)) before
 at_end kind words [] before r few = subst (λ (l : List Pair). AreAsked kind l before) (sym (r.split ∙ append-nil r.front)) r.asked
 at_end kind words (word ∷ []) before r few = subst (λ (l : List Pair). AreAsked kind l before) (sym (r.split ∙ append-nil r.front)) r.asked
 at_end kind words (word ∷ other ∷ rest) before r few = absurd (omega (arith, few))
 
 -- the first two words that are left are a pair
-pub first_pair : (rest : List (String Global)) (first second a b : String Global) (id version : List ℕ) → 2 ≤ length rest → first ≡ get_or rest 0 a → second ≡ get_or rest 1 b
+pub first_pair : (rest : List (String Global)) (first second a b : String Global) (id version : List ℕ) → 2 ≤ length rest → first ≡ get_or rest 0 a
+    → second ≡ get_or rest 1 b
     → id ≡ string_bytes first → version ≡ string_bytes second → pairs_of (texts rest) ≡ (id, version) ∷ pairs_of (texts (take (length rest - 2) (drop 2 rest)))
 first_pair [] first second a b id version two is_first is_second is_id is_version = absurd (omega (arith, two))
 first_pair (x ∷ []) first second a b id version two is_first is_second is_id is_version = absurd (omega (arith, two))
@@ -56,17 +59,13 @@ first_pair (x ∷ y ∷ more) first second a b id version two is_first is_second
     rw (is_id, is_version, is_first, is_second) (ap (λ (l : List (String Global)). (string_bytes x, string_bytes y) ∷ pairs_of (texts l)) (sym whole))
 
 unread : (answer : Answer) (kind : NameKind) (pairs : List Pair) → IsFirstNotAsked answer kind pairs → NotRead answer kind pairs
-unread (Done given) kind pairs first = first
-unread Usage kind pairs first = first
-unread (Refused why) kind pairs first = first
-unread (Fault name) kind pairs first = first
-unread FaultInput kind pairs first = first
-unread (Damaged name blob) kind pairs first = first
-unread TooLong kind pairs first = first
-unread Memory kind pairs first = tt
+unread (Reply line.Memory) kind pairs first = tt
+unread _ kind pairs first = first
 
-pub stops_at : (answer : Answer) (kind : NameKind) (words rest behind : List (String Global)) (pair : Pair) (before : List Change) (place : ℕ) → AreReadTo kind words rest before
-    → pairs_of (texts rest) ≡ pair ∷ pairs_of (texts behind) → place ≡ length before → NotAsked answer place pair.0 pair.1 → NotRead answer kind (pairs_of (texts words))
+pub stops_at : (answer : Answer) (kind : NameKind) (words rest behind : List (String Global)) (pair : Pair) (before : List Change) (place : ℕ)
+    → AreReadTo kind words rest before
+    → pairs_of (texts rest) ≡ pair ∷ pairs_of (texts behind) → place ≡ length before → NotAsked answer place pair.0 pair.1
+    → NotRead answer kind (pairs_of (texts words))
 stops_at answer kind words rest behind pair before place r e at not = unread answer kind (pairs_of (texts words)) (record {
   front = r.front;
   pair = pair;

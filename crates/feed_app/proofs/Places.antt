@@ -6,31 +6,31 @@ use Rattle.feed_paths.specs.Hives.{served_under}
 use Rattle.feed_paths.specs.Paths.{IsHivePath}
 use Rattle.feed_paths.specs.declared.hives.ServedHive.{ServedHive}
 use Rattle.feed_paths.specs.declared.hives.ServedHive.TheVariants.{Plain, SemVer2, Content}
-use Rattle.feed_app.specs.Frame.{Asks, Keeps, KeepsArea, Nothing, Touch, Touches, touch_of}
+use Rattle.admin_wire.specs.declared.area.AreaName.TheVariants as area
+use Rattle.feed_app.specs.Frame.{Asks, KeepsAreas, KeepsArea, Nothing, Touch, Touches, touch_of}
 use Rattle.feed_app.specs.Gets.{asked_under, get_reach}
 use Rattle.feed_app.specs.Hives.{KeepsOthers, by_hive, hive_area, hive_stores}
 use Rattle.feed_app.specs.Jobs.{job_reach}
 use Rattle.feed_app.specs.Outside.{AreaRose, Members, area_of, held}
 use Rattle.feed_app.specs.Spelled.{StaysSpelled}
-use Rattle.feed_app.specs.declared.area.AreaName.TheVariants as area
 
 module _ {B : Type 0} (m : Members B) (before after : Stores B) where
   -- a hive's store is that of its area
-  pub by_area : (hive : ServedHive) → AreaRose m (hive_stores before hive) (hive_stores after hive) → AreaRose m (area_of before (hive_area hive)) (area_of after (hive_area hive))
+  pub by_area : (hive : ServedHive) → AreaRose m (hive_stores before hive) (hive_stores after hive)
+      → AreaRose m (area_of before (hive_area hive)) (area_of after (hive_area hive))
   by_area Plain rose = rose
   by_area SemVer2 rose = rose
   by_area Content rose = rose
 
-  pub of_area : (hive : ServedHive) → AreaRose m (area_of before (hive_area hive)) (area_of after (hive_area hive)) → AreaRose m (hive_stores before hive) (hive_stores after hive)
+  pub of_area : (hive : ServedHive) → AreaRose m (area_of before (hive_area hive)) (area_of after (hive_area hive))
+      → AreaRose m (hive_stores before hive) (hive_stores after hive)
   of_area Plain rose = rose
   of_area SemVer2 rose = rose
   of_area Content rose = rose
 
 -- the catalog's area is no hive's
 pub no_hive_area : (hive : ServedHive) → area.Catalog ≡ hive_area hive → ⊥
-no_hive_area Plain is = cc is
-no_hive_area SemVer2 is = cc is
-no_hive_area Content is = cc is
+no_hive_area hive is = cc is
 
 -- a job touches the catalog's area and the hive's
 pub job_touches : (hive : ServedHive) → Touches (job_reach hive).catalog × Touches (touch_of (job_reach hive) (hive_area hive))
@@ -64,7 +64,8 @@ module _ {B : Type 0} (m : Members B) where
   kept path hive store = same_kept (starts_with nat_eq path (served_under hive)) store
 
   -- so is one that holds the same, where the path names a document of its hive
-  kept_asked : (hive : ServedHive) (path rest : List ℕ) (old new : B) → IsHivePath hive path rest → held m new ≡ held m old → KeepsArea m (asked_under path hive) old new
+  kept_asked : (hive : ServedHive) (path rest : List ℕ) (old new : B) → IsHivePath hive path rest → held m new ≡ held m old
+      → KeepsArea m (asked_under path hive) old new
   kept_asked hive path rest old new names same = subst (λ (t : Touch). KeepsArea m t old new) (sym (asked hive path rest names)) same
 
   -- what a `get` does to the stores of the hives where the path names a document of one, which alone was asked
@@ -106,7 +107,7 @@ module _ {B : Type 0} (plain semver2 content other : B) where
 
 -- a job that leaves the other hives' stores leaves all that isn't in its reach
 pub job_keeps : {B : Type 0} (m : Members B) (before after : Stores B) (hive : ServedHive) → StaysSpelled (m.seen before.catalog) (m.seen after.catalog)
-    → KeepsOthers hive (hive_stores before) (hive_stores after) → after.auto ≡ before.auto → Keeps m (job_reach hive) before after
+    → KeepsOthers hive (hive_stores before) (hive_stores after) → after.auto ≡ before.auto → KeepsAreas m (job_reach hive) before after
 job_keeps m before after Plain catalog others auto = record {
   catalog = catalog;
   plain = tt;

@@ -1,40 +1,44 @@
 -- A document that is held is written.
 use Rattle.std.proofs.Common.{◌≡◌, ◌⊎◌, ℕ, List, Some, inl, inr, ⊎_elim, ◌∙◌, ap, subst}
-use Rattle.feed_app.specs.Answers.{status_of, text_of}
-use Rattle.feed_app.specs.Commands.{Get, command_of}
 use Rattle.feed_paths.specs.Paths.{without_query}
 use Rattle.feed_paths.specs.declared.hives.ServedHive.{ServedHive}
+use Rattle.admin_wire.specs.declared.line.Line.TheVariants as line
+use Rattle.admin_wire.specs.declared.area.AreaName.{AreaName}
+use Rattle.admin_wire.specs.declared.area.AreaName.TheVariants as area
+use Rattle.feed_app.specs.Answers.{answer_status, answer_text}
+use Rattle.feed_app.specs.Commands.{Get, command_of}
 use Rattle.feed_app.specs.Frame.{Explains, IsDone}
 use Rattle.feed_app.specs.Gets.{HasCatalogDocument, HasHiveDocument, IsServed, get_meaning}
 use Rattle.feed_app.specs.Hives.{hive_area, hive_stores}
 use Rattle.feed_app.specs.Outside.{AreaRose, Bounds, Outside, Rose, Stream, area_of, held, output_of, sight}
-use Rattle.feed_app.specs.Runs.{Runs}
-use Rattle.feed_app.specs.Writes.{HasMore, Writes}
+use Rattle.feed_app.specs.Runs.{RunsCommand}
+use Rattle.feed_app.specs.Writes.{HasMore, WritesAnswer}
 use Rattle.feed_app.specs.declared.answer.Answer.{Answer}
-use Rattle.feed_app.specs.declared.answer.Answer.TheVariants.{Done, Memory}
-use Rattle.feed_app.specs.declared.answer.Reply.TheVariants as reply
-use Rattle.feed_app.specs.declared.area.AreaName.{AreaName}
-use Rattle.feed_app.specs.declared.area.AreaName.TheVariants as area
+use Rattle.feed_app.specs.declared.answer.Answer.TheVariants.{Document, Reply}
 use Rattle.feed_app.proofs.Calls.{done}
 use Rattle.feed_app.proofs.Gets.{IsGood, catalog_held, hive_held}
 use Rattle.feed_app.proofs.Places.{of_area}
 
 -- the answer's text went out, or memory ran out
-written : (answer : Answer) (bytes : List ℕ) (status : ℕ) (old new : Stream) → (answer ≡ Done (reply.Document bytes)) ⊎ (answer ≡ Memory) → (Rose old new → ⊥) → Writes answer status old new → IsServed bytes status old new
-written answer bytes status old new (inl is) quiet (inl all) = inl (all.number ∙ ap status_of is, subst (λ (a : Answer). HasMore (text_of a) old new) is all.text)
-written answer bytes status old new (inr is) quiet (inl all) = inr (all.number ∙ ap status_of is)
+written : (answer : Answer) (bytes : List ℕ) (status : ℕ) (old new : Stream) → (answer ≡ Document bytes) ⊎ (answer ≡ Reply line.Memory) → (Rose old new → ⊥)
+    → WritesAnswer answer status old new → IsServed bytes status old new
+written answer bytes status old new (inl is) quiet (inl all) =
+    inl (all.number ∙ ap answer_status is, subst (λ (a : Answer). HasMore (answer_text a) old new) is all.text)
+written answer bytes status old new (inr is) quiet (inl all) = inr (all.number ∙ ap answer_status is)
 written answer bytes status old new good quiet (inr (inl none)) = inr none.number
 written answer bytes status old new good quiet (inr (inr prefix)) = absurd (quiet prefix.rose)
 
-module _ {B I O C : Type 0} (b : Bounds B I O C) (words : List (List ℕ)) (path bytes : List ℕ) (before after : Outside B I O C) (status : ℕ) (run : Runs b words before status after)
+module _ {B I O C : Type 0} (b : Bounds B I O C) (words : List (List ℕ)) (path bytes : List ℕ) (before after : Outside B I O C) (status : ℕ)
+    (run : RunsCommand b words before status after)
     (asked : command_of words ≡ Some (Get path)) where
   its : IsDone b.blobs (get_meaning b.blobs path) (sight b before) run.answer (sight b after)
   its = done b words before after status run (Get path) asked
 
   sure : (name : AreaName) → (AreaRose b.blobs (area_of before.stores name) (area_of after.stores name) → ⊥) → IsGood name bytes run.answer
-      → (run.answer ≡ Done (reply.Document bytes)) ⊎ (run.answer ≡ Memory)
+      → (run.answer ≡ Document bytes) ⊎ (run.answer ≡ Reply line.Memory)
   sure name still (inl is) = inl is
-  sure name still (inr (inl fault)) = absurd (still (subst (λ (a : Answer). Explains b.blobs (get_meaning b.blobs path).reach (sight b before) a (sight b after)) fault its.explains).1)
+  sure name still (inr (inl fault)) = absurd
+      (still (subst (λ (a : Answer). Explains b.blobs (get_meaning b.blobs path).reach (sight b before) a (sight b after)) fault its.explains).1)
   sure name still (inr (inr memory)) = inr memory
 
   abbrev OutputRose : Type 0
@@ -43,13 +47,16 @@ module _ {B I O C : Type 0} (b : Bounds B I O C) (words : List (List ℕ)) (path
   abbrev Served : Type 0
   Served = IsServed bytes status (output_of b.sink before.output) (output_of b.sink after.output)
 
-  pub catalog_served : HasCatalogDocument (without_query path) bytes (held b.blobs before.stores.catalog) → (AreaRose b.blobs before.stores.catalog after.stores.catalog → ⊥) → (OutputRose → ⊥) → Served
+  pub catalog_served : HasCatalogDocument (without_query path) bytes (held b.blobs before.stores.catalog)
+      → (AreaRose b.blobs before.stores.catalog after.stores.catalog → ⊥) → (OutputRose → ⊥) → Served
   catalog_served has still quiet =
       written run.answer bytes status (output_of b.sink before.output) (output_of b.sink after.output)
       (sure area.Catalog still (catalog_held b.blobs path bytes (sight b before) (sight b after) run.answer has its.acts)) quiet run.writes
 
-  pub hive_served : (hive : ServedHive) → HasHiveDocument hive (without_query path) bytes (held b.blobs before.stores.catalog) (held b.blobs (hive_stores before.stores hive))
-      → (AreaRose b.blobs before.stores.catalog after.stores.catalog → ⊥) → (AreaRose b.blobs (hive_stores before.stores hive) (hive_stores after.stores hive) → ⊥) → (OutputRose → ⊥) → Served
+  pub hive_served : (hive : ServedHive) → HasHiveDocument hive (without_query path) bytes (held b.blobs before.stores.catalog)
+      (held b.blobs (hive_stores before.stores hive))
+      → (AreaRose b.blobs before.stores.catalog after.stores.catalog → ⊥)
+      → (AreaRose b.blobs (hive_stores before.stores hive) (hive_stores after.stores hive) → ⊥) → (OutputRose → ⊥) → Served
   hive_served hive has still calm quiet =
       written run.answer bytes status (output_of b.sink before.output) (output_of b.sink after.output)
       (⊎_elim (sure area.Catalog still) (sure (hive_area hive) (λ rose. calm (of_area b.blobs before.stores after.stores hive rose)))

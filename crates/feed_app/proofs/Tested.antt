@@ -35,11 +35,13 @@ module _ (host zone : List ℕ) (is_host : IsName host) (is_zone : IsName zone) 
   names = host ++ (46 ∷ (zone ++ codes "/"))
 
   own_address : is_address (address host zone) host zone ≡ true
-  own_address = and_from _ _ (name_true host is_host) (and_from _ _ (name_true zone is_zone) ((bytes_eq-Decides (address host zone) (address host zone)).1 refl))
+  own_address = and_from _ _ (name_true host is_host)
+      (and_from _ _ (name_true zone is_zone) ((bytes_eq-Decides (address host zone) (address host zone)).1 refl))
 
   same_zone : take (length names - (length host + 2)) (drop (length host + 1) names) ≡ zone
   same_zone =
-      let long : length names - (length host + 2) ≡ length zone = omega (arith, length-append host (46 ∷ (zone ++ codes "/")), length-append zone (codes "/")) in
+      let long : length names - (length host + 2) ≡ length zone =
+      omega (arith, length-append host (46 ∷ (zone ++ codes "/")), length-append zone (codes "/")) in
       let behind : drop (length host + 1) names ≡ zone ++ codes "/" = drop-append-add host (46 ∷ (zone ++ codes "/")) 1 in
       rw (long, behind) (take-append_seam zone (codes "/"))
 

@@ -25,7 +25,8 @@ absent_before m bytes name (number, place, nuspec, is) none =
     ap (get m) is ∙ sym (get_put_other m index_name bytes (staged_name number place nuspec) (staged_name-not_index number place nuspec))
     ∙ ap (get (with_blob index_name bytes m)) (sym is) ∙ none
 
-module _ {B F : Type 0} (o n : Opened B) (now after : Seen) (settled : o.settled ≡ true) (stays : StaysOpen o n now after F) (name : List ℕ) (missing : IsMissing o n now after name) where
+module _ {B F : Type 0} (o n : Opened B) (now after : Seen) (settled : o.settled ≡ true) (stays : StaysOpen o n now after F) (name : List ℕ)
+    (missing : IsMissing o n now after name) where
   abbrev UnreadIn : Area → Type 0
   UnreadIn m = ((number place : ℕ) × (name ≡ leaf_name number place)) ⊎ (IsStagedName name × (get m name ≡ None))
 
@@ -49,4 +50,5 @@ module _ {B F : Type 0} (o n : Opened B) (now after : Seen) (settled : o.settled
   pub unread : (held : Option Area) → IsMended held now.held → IsUnread held name
   unread held (inl same) = λ m is. of_settled m (same ∙ is)
   unread held (inr (base, heads, put)) = λ m is.
-      before_index m (index_text base heads) (of_settled (with_blob index_name (index_text base heads) m) (put ∙ ap (option_map (with_blob index_name (index_text base heads))) is))
+      before_index m (index_text base heads)
+      (of_settled (with_blob index_name (index_text base heads) m) (put ∙ ap (option_map (with_blob index_name (index_text base heads))) is))

@@ -2,12 +2,14 @@
 use Rattle.std.specs.Prelude.{◌≡◌, ◌<◌, length, IfSome, ℕ, ⊤}
 use Rattle.blob_store.specs.Seen.{Seen}
 use Rattle.catalog_core.specs.declared.stores.Stores.{Stores}
+use Rattle.admin_wire.specs.declared.area.AreaName.{AreaName}
+use Rattle.admin_wire.specs.declared.area.AreaName.TheVariants as area
+use Rattle.admin_wire.specs.declared.line.Line.TheVariants as line
+use Rattle.fold_core.specs.declared.hive.HiveName.TheVariants as hives
 use Rattle.feed_app.specs.Outside.{Members, Sight, Rose, AreaRose, area_of, held}
 use Rattle.feed_app.specs.Spelled.{ForSpelled, StaysSpelled}
 use Rattle.feed_app.specs.declared.answer.Answer.{Answer}
-use Rattle.feed_app.specs.declared.answer.Answer.TheVariants.{Usage, Fault, FaultInput, Damaged, TooLong}
-use Rattle.feed_app.specs.declared.area.AreaName.{AreaName}
-use Rattle.feed_app.specs.declared.area.AreaName.TheVariants as area
+use Rattle.feed_app.specs.declared.answer.Answer.TheVariants.{Reply, Usage}
 
 -- how many bytes an input has at the most
 abbrev pub most_input : ℕ
@@ -35,10 +37,10 @@ nothing = record { catalog = Nothing; plain = Nothing; semver2 = Nothing; conten
 
 abbrev pub touch_of : Reach → AreaName → Touch
 touch_of reach area.Catalog = reach.catalog
-touch_of reach area.Plain = reach.plain
-touch_of reach area.Semver2 = reach.semver2
-touch_of reach area.Content = reach.content
-touch_of reach area.Auto = reach.auto
+touch_of reach (area.Hive hives.Plain) = reach.plain
+touch_of reach (area.Hive hives.SemVer2) = reach.semver2
+touch_of reach (area.Hive hives.Content) = reach.content
+touch_of reach (area.Hive hives.Auto) = reach.auto
 
 abbrev pub Touches : Touch → Type 0
 Touches Nothing = ⊥
@@ -54,7 +56,7 @@ KeepsArea m Opens old new = StaysSpelled (m.seen old) (m.seen new)
 KeepsArea m Changes old new = ⊤
 
 -- each area that isn't within reach is as it was
-pub record Keeps {B : Type 0} (m : Members B) (reach : Reach) (before after : Stores B) : Type 0 where
+pub record KeepsAreas {B : Type 0} (m : Members B) (reach : Reach) (before after : Stores B) : Type 0 where
   pub catalog : KeepsArea m reach.catalog before.catalog after.catalog
   pub plain : KeepsArea m reach.plain before.plain after.plain
   pub semver2 : KeepsArea m reach.semver2 before.semver2 after.semver2
@@ -73,13 +75,15 @@ abbrev pub IsLost : AreaName → Seen → Type 0
 IsLost area.Catalog s = ForSpelled s (λ base cs. ⊥)
 IsLost _ s = ⊥
 
--- why an answer of this kind came
+-- why an answer of this kind came; no command answers a line that a server alone tells
 abbrev pub Explains : {B : Type 0} → Members B → Reach → Sight B → Answer → Sight B → Type 0
 Explains m reach before Usage after = ⊥
-Explains m reach before (Fault name) after = Touches (touch_of reach name) × AreaRose m (area_of before.stores name) (area_of after.stores name)
-Explains m reach before FaultInput after = Touches reach.input × Rose before.input after.input
-Explains m reach before (Damaged name blob) after = Touches (touch_of reach name) × IsLost name (m.seen (area_of before.stores name))
-Explains m reach before TooLong after = Touches reach.input × IfSome before.input.told (λ body. most_input < length body)
+Explains m reach before (Reply (line.Fault name)) after = Touches (touch_of reach name) × AreaRose m (area_of before.stores name) (area_of after.stores name)
+Explains m reach before (Reply line.FaultInput) after = Touches reach.input × Rose before.input after.input
+Explains m reach before (Reply (line.Damaged name blob)) after = Touches (touch_of reach name) × IsLost name (m.seen (area_of before.stores name))
+Explains m reach before (Reply line.TooLong) after = Touches reach.input × IfSome before.input.told (λ body. most_input < length body)
+Explains m reach before (Reply (line.Left hive name)) after = ⊥
+Explains m reach before (Reply line.Stopping) after = ⊥
 Explains m reach before _ after = ⊤
 
 -- a command: what it may touch, when it can be done, and what it does
@@ -90,6 +94,6 @@ pub record Meaning (B : Type 0) : Type 1 where
 
 -- a command of this meaning was done, with this answer
 pub record IsDone {B : Type 0} (m : Members B) (meaning : Meaning B) (before : Sight B) (answer : Answer) (after : Sight B) : Type 0 where
-  pub keeps : Keeps m meaning.reach before.stores after.stores
+  pub keeps : KeepsAreas m meaning.reach before.stores after.stores
   pub explains : Explains m meaning.reach before answer after
   pub acts : meaning.acts before answer after

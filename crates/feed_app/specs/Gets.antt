@@ -13,6 +13,9 @@ use Rattle.feed_paths.specs.Hives.{served_under}
 use Rattle.feed_paths.specs.Paths.{IsCatalogPath, IsHivePath, IsNotYet, IsOfNone, without_query}
 use Rattle.feed_paths.specs.declared.hives.ServedHive.{ServedHive}
 use Rattle.feed_paths.specs.declared.hives.ServedHive.TheVariants.{Plain, SemVer2, Content}
+use Rattle.admin_wire.specs.declared.area.AreaName.TheVariants as area
+use Rattle.admin_wire.specs.declared.line.Line.TheVariants as line
+use Rattle.admin_wire.specs.declared.line.Refusal.TheVariants as refusal
 use Rattle.feed_app.specs.Frame.{Meaning, Reach, Touch, Asks, Nothing, Opens, nothing}
 use Rattle.feed_app.specs.Hives.{KeepsAll, KeepsOthers, hive_area, hive_stores}
 use Rattle.feed_app.specs.Openings.{NotOpened}
@@ -20,10 +23,7 @@ use Rattle.feed_app.specs.Outside.{Members, Sight, Stream, Shows, held}
 use Rattle.feed_app.specs.Spelled.{ForEach, HasCatalog, HoldsCatalog, Of}
 use Rattle.feed_app.specs.Writes.{HasMore}
 use Rattle.feed_app.specs.declared.answer.Answer.{Answer}
-use Rattle.feed_app.specs.declared.answer.Answer.TheVariants.{Done, Refused, Fault, Damaged, Memory}
-use Rattle.feed_app.specs.declared.answer.Refusal.TheVariants.{Missing, UnsupportedPath}
-use Rattle.feed_app.specs.declared.answer.Reply.TheVariants as reply
-use Rattle.feed_app.specs.declared.area.AreaName.TheVariants as area
+use Rattle.feed_app.specs.declared.answer.Answer.TheVariants.{Reply, Document}
 
 -- the name in its area of the hive's document that a path names
 abbrev pub stored_name : List ℕ → List ℕ
@@ -31,19 +31,19 @@ stored_name rest = codes "d/" ++ rest
 
 -- what is answered of a document that a catalog has, or hasn't
 abbrev pub OfDocument : Answer → Option (List ℕ) → Type 0
-OfDocument (Done (reply.Document bytes)) document = document ≡ Some bytes
-OfDocument (Refused Missing) document = document ≡ None
-OfDocument (Fault area.Catalog) document = ⊤
-OfDocument Memory document = ⊤
+OfDocument (Document bytes) document = document ≡ Some bytes
+OfDocument (Reply (line.Refused refusal.Missing)) document = document ≡ None
+OfDocument (Reply (line.Fault area.Catalog)) document = ⊤
+OfDocument (Reply line.Memory) document = ⊤
 OfDocument _ document = ⊥
 
 -- what may be answered of a catalog's area, whatever it holds
 abbrev pub IsOfCatalog : Answer → Type 0
-IsOfCatalog (Done (reply.Document bytes)) = ⊤
-IsOfCatalog (Refused Missing) = ⊤
-IsOfCatalog (Fault area.Catalog) = ⊤
-IsOfCatalog (Damaged area.Catalog name) = ⊤
-IsOfCatalog Memory = ⊤
+IsOfCatalog (Document bytes) = ⊤
+IsOfCatalog (Reply (line.Refused refusal.Missing)) = ⊤
+IsOfCatalog (Reply (line.Fault area.Catalog)) = ⊤
+IsOfCatalog (Reply (line.Damaged area.Catalog name)) = ⊤
+IsOfCatalog (Reply line.Memory) = ⊤
 IsOfCatalog _ = ⊥
 
 -- what is answered of the catalog's document of a name: that of each catalog of this kind
@@ -53,26 +53,26 @@ pub record OfCatalog (answer : Answer) (name : List ℕ) (Is : Of) : Type 0 wher
 
 -- what is answered of a hive's document of a name
 abbrev pub OfHive : ServedHive → Answer → List ℕ → Option Area → Type 0
-OfHive hive (Done (reply.Document bytes)) rest told = IfSome told (λ m. get m (stored_name rest) ≡ Some bytes)
-OfHive hive (Refused Missing) rest told = IfSome told (λ m. get m (stored_name rest) ≡ None)
-OfHive hive (Fault name) rest told = name ≡ hive_area hive
-OfHive hive Memory rest told = ⊤
+OfHive hive (Document bytes) rest told = IfSome told (λ m. get m (stored_name rest) ≡ Some bytes)
+OfHive hive (Reply (line.Refused refusal.Missing)) rest told = IfSome told (λ m. get m (stored_name rest) ≡ None)
+OfHive hive (Reply (line.Fault name)) rest told = name ≡ hive_area hive
+OfHive hive (Reply line.Memory) rest told = ⊤
 OfHive hive _ rest told = ⊥
 
 -- what is answered by what the path names, where only a document of a hive asks a hive's area, its own
-abbrev pub Reads : {B : Type 0} → Members B → Answer → List ℕ → Of → (ServedHive → B) → (ServedHive → B) → Type 0
-Reads m answer path Is old new =
+abbrev pub AnswersPath : {B : Type 0} → Members B → Answer → List ℕ → Of → (ServedHive → B) → (ServedHive → B) → Type 0
+AnswersPath m answer path Is old new =
     ((hive : ServedHive) × (rest : List ℕ) × IsHivePath hive path rest × OfHive hive answer rest (held m (old hive)) × KeepsOthers hive old new)
     ⊎ (KeepsAll old new
     × (((name : List ℕ) × IsCatalogPath path name × OfCatalog answer name Is)
-    ⊎ ((IsNotYet path × (answer ≡ Refused UnsupportedPath))
-    ⊎ ((IsOfNone path × (answer ≡ Refused Missing))
-    ⊎ (answer ≡ Memory)))))
+    ⊎ ((IsNotYet path × (answer ≡ Reply (line.Refused refusal.Unsupported)))
+    ⊎ ((IsOfNone path × (answer ≡ Reply (line.Refused refusal.Missing)))
+    ⊎ (answer ≡ Reply line.Memory)))))
 
 -- what a `get` answers: of an area that opens no catalog, or of one that is open
 abbrev pub Gets : {B : Type 0} → Members B → Answer → List ℕ → Seen → (ServedHive → B) → (ServedHive → B) → Type 0
 Gets m answer path catalog old new =
-    (NotOpened answer catalog × KeepsAll old new) ⊎ Reads m answer (without_query path) (HasCatalog catalog) old new
+    (NotOpened answer catalog × KeepsAll old new) ⊎ AnswersPath m answer (without_query path) (HasCatalog catalog) old new
 
 -- the area spells a catalog that has this document
 abbrev pub HoldsDocument : Area → List ℕ → List ℕ → Type 0

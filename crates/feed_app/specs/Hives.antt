@@ -9,14 +9,20 @@ use Rattle.reg_docs.specs.Entries.{keeps_every, keeps_plain}
 use Rattle.reg_docs.specs.declared.addresses.RegistrationHive.TheVariants as registration
 use Rattle.feed_paths.specs.declared.hives.ServedHive.{ServedHive}
 use Rattle.feed_paths.specs.declared.hives.ServedHive.TheVariants.{Plain, SemVer2, Content}
-use Rattle.feed_app.specs.declared.area.AreaName.{AreaName}
-use Rattle.feed_app.specs.declared.area.AreaName.TheVariants as area
+use Rattle.admin_wire.specs.declared.area.AreaName.{AreaName}
+use Rattle.admin_wire.specs.declared.area.AreaName.TheVariants as area
+use Rattle.fold_core.specs.declared.hive.HiveName.{HiveName}
+use Rattle.fold_core.specs.declared.hive.HiveName.TheVariants as hives
 
--- the area of a hive
+-- its name in reply lines
+abbrev pub hive_name : ServedHive → HiveName
+hive_name Plain = hives.Plain
+hive_name SemVer2 = hives.SemVer2
+hive_name Content = hives.Content
+
+-- its area
 abbrev pub hive_area : ServedHive → AreaName
-hive_area Plain = area.Plain
-hive_area SemVer2 = area.Semver2
-hive_area Content = area.Content
+hive_area hive = area.Hive (hive_name hive)
 
 -- which details a hive keeps
 abbrev pub keeps_in : ServedHive → Keeps

@@ -12,16 +12,16 @@ use Rattle.job_round.specs.Puts.{HasRun, HasRunSome, IsStagedName}
 use Rattle.job_round.specs.Round.{IsSettledOver, round_puts}
 use Rattle.feed_paths.specs.declared.hives.ServedHive.{ServedHive}
 use Rattle.feed_paths.specs.declared.hives.ServedHive.TheVariants.{Plain, SemVer2, Content}
+use Rattle.admin_wire.specs.declared.area.AreaName.TheVariants as area
+use Rattle.admin_wire.specs.declared.line.Line.TheVariants as line
+use Rattle.admin_wire.specs.declared.line.Refusal.TheVariants as refusal
 use Rattle.feed_app.specs.Frame.{Meaning, Reach, Changes, Opens, nothing}
-use Rattle.feed_app.specs.Hives.{hive_area, hive_stores, keeps_in, makes_in}
+use Rattle.feed_app.specs.Hives.{hive_area, hive_name, hive_stores, keeps_in, makes_in}
 use Rattle.feed_app.specs.Openings.{NotOpened}
 use Rattle.feed_app.specs.Outside.{Members, Shows, held}
 use Rattle.feed_app.specs.Spelled.{ForEach, HasCatalog, HoldsCatalog, Of}
 use Rattle.feed_app.specs.declared.answer.Answer.{Answer}
-use Rattle.feed_app.specs.declared.answer.Answer.TheVariants.{Done, Refused, Fault, Damaged, Memory}
-use Rattle.feed_app.specs.declared.answer.Refusal.TheVariants.{UnsupportedArea}
-use Rattle.feed_app.specs.declared.answer.Reply.TheVariants as reply
-use Rattle.feed_app.specs.declared.area.AreaName.TheVariants as area
+use Rattle.feed_app.specs.declared.answer.Answer.TheVariants.{Reply}
 
 -- a name that a job tells as damaged, behind the opening: that of a leaf, or of a publish's file that the catalog's area doesn't hold
 abbrev pub IsUnread : Option Area → List ℕ → Type 0
@@ -44,13 +44,15 @@ module _ (keeps : Keeps) (makes : Makes) where
   module _ (hive : ServedHive) where
     -- what is answered of an open catalog: of each catalog of this kind, by what may be told as damaged, and by the hive's area
     abbrev pub Builds : Answer → (List ℕ → Type 0) → Of → Option Area → Option Area → Type 0
-    Builds (Done (reply.Built which n)) Damages Is old new =
-        (which ≡ hive) × IsFresh old × ForEach Is (λ base cs. (n ≡ length cs) × (0 < n) × IsBuilt base cs old new)
-    Builds (Done (reply.Idle which n)) Damages Is old new = (which ≡ hive) × IsFresh old × (n ≡ 0) × ForEach Is (λ base cs. cs ≡ []) × (new ≡ old)
-    Builds (Refused UnsupportedArea) Damages Is old new = IfSome old (λ blobs. IsSome (get blobs cursor_name)) × (new ≡ old)
-    Builds (Damaged area.Catalog name) Damages Is old new = Damages name × ForEach Is (λ base cs. ⊥)
-    Builds (Fault name) Damages Is old new = ((name ≡ area.Catalog) ⊎ (name ≡ hive_area hive)) × ForEach Is (λ base cs. IsPartlyBuilt base cs old new)
-    Builds Memory Damages Is old new = ForEach Is (λ base cs. IsPartlyBuilt base cs old new)
+    Builds (Reply (line.Done which n)) Damages Is old new =
+        (which ≡ hive_name hive) × IsFresh old × ForEach Is (λ base cs. (n ≡ length cs) × (0 < n) × IsBuilt base cs old new)
+    Builds (Reply (line.Idle which n)) Damages Is old new =
+        (which ≡ hive_name hive) × IsFresh old × (n ≡ 0) × ForEach Is (λ base cs. cs ≡ []) × (new ≡ old)
+    Builds (Reply (line.Refused refusal.Unsupported)) Damages Is old new = IfSome old (λ blobs. IsSome (get blobs cursor_name)) × (new ≡ old)
+    Builds (Reply (line.Damaged area.Catalog name)) Damages Is old new = Damages name × ForEach Is (λ base cs. ⊥)
+    Builds (Reply (line.Fault name)) Damages Is old new =
+        ((name ≡ area.Catalog) ⊎ (name ≡ hive_area hive)) × ForEach Is (λ base cs. IsPartlyBuilt base cs old new)
+    Builds (Reply line.Memory) Damages Is old new = ForEach Is (λ base cs. IsPartlyBuilt base cs old new)
     Builds _ Damages Is old new = ⊥
 
     -- what a job answers: of an area that opens no catalog, or of one that is open

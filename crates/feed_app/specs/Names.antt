@@ -3,6 +3,8 @@
 use Rattle.std.specs.Prelude.{◌≡◌, ◌⊎◌, ◌++◌, ℕ, List, [], ◌∷◌, length, ⊤}
 use Rattle.admin_wire.specs.Bodies.{IsAsked, IsRefusedPair}
 use Rattle.admin_wire.specs.declared.error.BodyErr.TheVariants as body
+use Rattle.admin_wire.specs.declared.line.Line.TheVariants as line
+use Rattle.admin_wire.specs.declared.line.Refusal.TheVariants as refusal
 use Rattle.admin_wire.specs.declared.names.NameKind.{NameKind}
 use Rattle.blob_store.specs.Area.{Area}
 use Rattle.pkg_meta.specs.Catalog.{Catalog}
@@ -16,8 +18,7 @@ use Rattle.feed_app.specs.Outside.{Members, Sight, Shows, held}
 use Rattle.feed_app.specs.Publishes.{Ends}
 use Rattle.feed_app.specs.Spelled.{HoldsCatalog}
 use Rattle.feed_app.specs.declared.answer.Answer.{Answer}
-use Rattle.feed_app.specs.declared.answer.Answer.TheVariants.{Refused, Memory}
-use Rattle.feed_app.specs.declared.answer.Refusal.TheVariants.{Id, Version}
+use Rattle.feed_app.specs.declared.answer.Answer.TheVariants.{Reply}
 
 -- these changes are asked for these pairs, one for each in their order
 abbrev pub AreAsked : NameKind → List Pair → List Change → Type 0
@@ -27,9 +28,9 @@ AreAsked kind (pair ∷ pairs) (c ∷ changes) = IsAsked kind pair.0 pair.1 c ×
 
 -- why a pair at this place asks for nothing
 abbrev pub NotAsked : Answer → ℕ → List ℕ → List ℕ → Type 0
-NotAsked (Refused (Id at)) place id version = IsRefusedPair place id version (body.Id at)
-NotAsked (Refused (Version at)) place id version = IsRefusedPair place id version (body.Version at)
-NotAsked Memory place id version = ⊤
+NotAsked (Reply (line.Refused (refusal.Id at))) place id version = IsRefusedPair place id version (body.Id at)
+NotAsked (Reply (line.Refused (refusal.Version at))) place id version = IsRefusedPair place id version (body.Version at)
+NotAsked (Reply line.Memory) place id version = ⊤
 NotAsked _ place id version = ⊥
 
 -- the first pair that asks for nothing stands behind pairs that ask for changes
@@ -44,7 +45,7 @@ pub record IsFirstNotAsked (answer : Answer) (kind : NameKind) (pairs : List Pai
 
 -- the pairs were not read: why
 abbrev pub NotRead : Answer → NameKind → List Pair → Type 0
-NotRead Memory kind pairs = ⊤
+NotRead (Reply line.Memory) kind pairs = ⊤
 NotRead answer kind pairs = IsFirstNotAsked answer kind pairs
 
 -- What the command answers, and what it leaves: the pairs were not read, and neither the catalog's area nor the clock was

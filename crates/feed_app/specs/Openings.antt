@@ -5,25 +5,26 @@ use Rattle.blob_store.specs.Area.{Area}
 use Rattle.blob_store.specs.Seen.{Seen}
 use Rattle.catalog_doc.specs.Names.{index_name}
 use Rattle.catalog_opening.specs.Openings.{IsDamagedOf}
+use Rattle.admin_wire.specs.declared.area.AreaName.TheVariants as area
+use Rattle.admin_wire.specs.declared.line.Line.TheVariants as line
+use Rattle.admin_wire.specs.declared.line.Refusal.TheVariants as refusal
 use Rattle.feed_app.specs.Spelled.{ForSpelled}
 use Rattle.feed_app.specs.declared.answer.Answer.{Answer}
-use Rattle.feed_app.specs.declared.answer.Answer.TheVariants.{Refused, Fault, Damaged, Memory}
-use Rattle.feed_app.specs.declared.answer.Refusal.TheVariants.{Uninitialised, UnsupportedCatalog}
-use Rattle.feed_app.specs.declared.area.AreaName.TheVariants as area
+use Rattle.feed_app.specs.declared.answer.Answer.TheVariants.{Reply}
 
 -- by the catalog's area, where it is told
 abbrev pub OpensNone : Answer → Seen → Type 0
-OpensNone (Refused Uninitialised) s = (m : Area) → s.held ≡ Some m → get m index_name ≡ None
-OpensNone (Refused UnsupportedCatalog) s = ⊤
-OpensNone (Fault area.Catalog) s = ⊤
-OpensNone (Damaged area.Catalog name) s = (m : Area) → s.held ≡ Some m → IsDamagedOf m name
-OpensNone Memory s = ⊤
+OpensNone (Reply (line.Refused refusal.Uninitialised)) s = (m : Area) → s.held ≡ Some m → get m index_name ≡ None
+OpensNone (Reply (line.Refused (refusal.Base stored given))) s = ⊤
+OpensNone (Reply (line.Fault area.Catalog)) s = ⊤
+OpensNone (Reply (line.Damaged area.Catalog name)) s = (m : Area) → s.held ≡ Some m → IsDamagedOf m name
+OpensNone (Reply line.Memory) s = ⊤
 OpensNone _ s = ⊥
 
 -- the catalog's store failed, or memory ran out
 abbrev pub IsOfStore : Answer → Type 0
-IsOfStore (Fault area.Catalog) = ⊤
-IsOfStore Memory = ⊤
+IsOfStore (Reply (line.Fault area.Catalog)) = ⊤
+IsOfStore (Reply line.Memory) = ⊤
 IsOfStore _ = ⊥
 
 -- a catalog that the area spells is opened, unless the store fails or memory runs out

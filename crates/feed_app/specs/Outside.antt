@@ -5,8 +5,9 @@ use Rattle.blob_store.specs.declared.blobs.Blobs as store
 use Rattle.catalog_core.specs.declared.stores.Stores.{Stores}
 use Rattle.feed_base.specs.Counts.{HasRisen}
 use Rattle.feed_base.specs.declared.outside as bound
-use Rattle.feed_app.specs.declared.area.AreaName.{AreaName}
-use Rattle.feed_app.specs.declared.area.AreaName.TheVariants.{Catalog, Plain, Semver2, Content, Auto}
+use Rattle.admin_wire.specs.declared.area.AreaName.{AreaName}
+use Rattle.admin_wire.specs.declared.area.AreaName.TheVariants.{Catalog, Hive}
+use Rattle.fold_core.specs.declared.hive.HiveName.TheVariants as hives
 
 -- what is told of a store
 abbrev pub Members : Type 0 → Type 1
@@ -23,10 +24,10 @@ AreaRose m old new = HasRisen (m.seen old).faults (m.seen new).faults
 -- an area by its name
 abbrev pub area_of : {B : Type 0} → Stores B → AreaName → B
 area_of stores Catalog = stores.catalog
-area_of stores Plain = stores.plain
-area_of stores Semver2 = stores.semver2
-area_of stores Content = stores.content
-area_of stores Auto = stores.auto
+area_of stores (Hive hives.Plain) = stores.plain
+area_of stores (Hive hives.SemVer2) = stores.semver2
+area_of stores (Hive hives.Content) = stores.content
+area_of stores (Hive hives.Auto) = stores.auto
 
 -- the bytes that are told of an input or an output, and how many of its calls have failed
 pub record Stream : Type 0 where

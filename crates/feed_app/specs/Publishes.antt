@@ -5,6 +5,8 @@ use Rattle.std.specs.declared.result.Result.TheVariants.{Ok, Err}
 use Rattle.admin_wire.specs.Bodies.{ArePublishes, IsRefusedPublish}
 use Rattle.admin_wire.specs.declared.error.BodyErr.{BodyErr}
 use Rattle.admin_wire.specs.declared.error.BodyErr.TheVariants as body
+use Rattle.admin_wire.specs.declared.line.Line.TheVariants as line
+use Rattle.admin_wire.specs.declared.line.Refusal.TheVariants as refusal
 use Rattle.feed_base.specs.Clock.{Tells}
 use Rattle.blob_store.specs.Area.{Area}
 use Rattle.blob_store.specs.Moments.{LeavesOnly}
@@ -15,16 +17,14 @@ use Rattle.catalog_doc.specs.Spelled.{SpellsCatalog}
 use Rattle.catalog_doc.specs.declared.change.Change.{Change}
 use Rattle.catalog_doc.specs.declared.change.Committed.{Committed}
 use Rattle.catalog_doc.specs.declared.error.CommitErr.{CommitErr}
-use Rattle.catalog_core.specs.Committing.{Commits, MayBeCommitted, WithOrWithout}
+use Rattle.catalog_core.specs.Committing.{Commits, MayBeCommitted, WithOrWithout, with_made}
 use Rattle.feed_app.specs.Causes.{commit_answer}
 use Rattle.feed_app.specs.Frame.{Meaning, Changes, most_input, nothing}
 use Rattle.feed_app.specs.Openings.{NotOpened}
 use Rattle.feed_app.specs.Outside.{Members, Sight, Shows, held}
 use Rattle.feed_app.specs.Spelled.{ForSpelled, HasCatalog, HoldsCatalog, StaysSpelled}
 use Rattle.feed_app.specs.declared.answer.Answer.{Answer}
-use Rattle.feed_app.specs.declared.answer.Answer.TheVariants.{Done, Refused, FaultInput, TooLong, Memory}
-use Rattle.feed_app.specs.declared.answer.Refusal.TheVariants.{Body, Meta}
-use Rattle.feed_app.specs.declared.answer.Reply.TheVariants as reply
+use Rattle.feed_app.specs.declared.answer.Answer.TheVariants.{Reply}
 
 -- the input isn't too long, and is refused as a body of publishes for this reason
 abbrev pub IsRefusedBody : Option (List ℕ) → BodyErr → Type 0
@@ -32,11 +32,11 @@ IsRefusedBody rest e = IfSome rest (λ body. (length body ≤ most_input) × IsR
 
 -- the input was not taken: why, of the bytes that the source had
 abbrev pub NotTaken : Answer → Option (List ℕ) → Type 0
-NotTaken FaultInput rest = ⊤
-NotTaken TooLong rest = IfSome rest (λ body. most_input < length body)
-NotTaken (Refused (Body at)) rest = IsRefusedBody rest (body.Shape at)
-NotTaken (Refused (Meta place why)) rest = IsRefusedBody rest (body.Meta place why)
-NotTaken Memory rest = ⊤
+NotTaken (Reply line.FaultInput) rest = ⊤
+NotTaken (Reply line.TooLong) rest = IfSome rest (λ body. most_input < length body)
+NotTaken (Reply (line.Refused (refusal.Body at))) rest = IsRefusedBody rest (body.Shape at)
+NotTaken (Reply (line.Refused (refusal.Meta place why))) rest = IsRefusedBody rest (body.Meta place why)
+NotTaken (Reply line.Memory) rest = ⊤
 NotTaken _ rest = ⊥
 
 -- the input isn't too long, and is a body of these publishes
@@ -45,7 +45,7 @@ Brings rest changes = IfSome rest (λ body. (length body ≤ most_input) × AreP
 
 -- what is told of a commit
 abbrev pub commit_reply : Result Committed CommitErr → Answer
-commit_reply (Ok done) = Done (reply.Committed done.number done.stamp)
+commit_reply (Ok done) = Reply (line.Committed done.number done.stamp)
 commit_reply (Err error) = commit_answer error
 
 -- The commit of these changes ended so, of every catalog that was spelled. A crash at each moment leaves an area that spells
@@ -54,11 +54,25 @@ pub record CommitsAt (changes : List Change) (now : ℕ) (old new : Seen) (resul
   pub commits : ForSpelled old (λ base cs. Commits cs changes now result (HasCatalog new base))
   pub moments : ForSpelled old (λ base cs. LeavesOnly old new (λ left. WithOrWithout cs changes now (SpellsCatalog left base)))
 
--- The clock wasn't asked, and what the area spelled it spells: no catalog was opened, or memory ran out. Or the clock was
--- asked once, and the changes were committed at that moment onto the catalog that was there.
+-- the catalog that was spelled is spelled with one commit behind the others, which the verdict took
+abbrev pub HasCommit : Seen → Seen → Type 0
+HasCommit old new = ForSpelled old (λ base cs. (changes : List Change) × (now : ℕ) × MayBeCommitted cs changes now
+    × HasCatalog new base (with_made cs changes now))
+
+-- one catalog that was spelled is spelled so, or as it was, and so it is where a crash at any moment stops the call
+abbrev pub IsCommitOrNot : Seen → Seen → List ℕ → Catalog → Type 0
+IsCommitOrNot old new base cs = (changes : List Change) × (now : ℕ) × WithOrWithout cs changes now (HasCatalog new base)
+    × LeavesOnly old new (λ left. WithOrWithout cs changes now (SpellsCatalog left base))
+
+-- each is
+abbrev pub HasCommitOrNot : Seen → Seen → Type 0
+HasCommitOrNot old new = ForSpelled old (IsCommitOrNot old new)
+
+-- The clock wasn't asked, and what the area spelled it spells: no catalog was opened. Or the clock was asked once, and the
+-- changes were committed at that moment onto the catalog that was there.
 abbrev pub Ends : Answer → List Change → Seen → Seen → Option (List ℕ) → Option (List ℕ) → Type 0
 Ends answer changes old new told later =
-    ((NotOpened answer old ⊎ (answer ≡ Memory)) × StaysSpelled old new × (later ≡ told))
+    (NotOpened answer old × StaysSpelled old new × (later ≡ told))
     ⊎ ((now : ℕ) × (result : Result Committed CommitErr) × Tells now told later × (answer ≡ commit_reply result) × CommitsAt changes now old new result)
 
 -- What `publish` answers, and what it leaves: the input was not taken, and neither the catalog's area nor the clock was

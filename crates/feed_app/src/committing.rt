@@ -4,8 +4,8 @@ ghost use Rattle.feed_base.specs.Counts.{HasRisen};
 ghost use Rattle.feed_base.specs.Clock.{Tells};
 ghost use Rattle.feed_app.specs.Publishes.{Ends};
 
-use crate::answer::{Answer, Reply};
-use crate::area::AreaName;
+use crate::answer::Answer;
+use admin_wire::{AreaName, Line};
 use blob_store::Blobs;
 use catalog_core::{Changes, open_catalog};
 use feed_base::Clock;
@@ -30,7 +30,7 @@ pub(crate) fn commit_into<B: Blobs, C: Clock>(
     clock: &mut C,
 ) -> (Answer, B)
     ensures ends { Ends result.0 changes.now (B.seen area) (B.seen result.1) (C.answers clock.old) (C.answers clock.new) }
-    ensures cause { result.0 ≡ Answer.Fault AreaName.Catalog → HasRisen (B.seen area).faults (B.seen result.1).faults }
+    ensures cause { result.0 ≡ Answer.Reply (Line.Fault AreaName.Catalog) → HasRisen (B.seen area).faults (B.seen result.1).faults }
 {
     let mut catalog = match open_catalog(alloc, area, None) {
         Ok(catalog) => catalog,
@@ -39,11 +39,11 @@ pub(crate) fn commit_into<B: Blobs, C: Clock>(
     let now = moment(clock);
     match catalog.commit(alloc, changes, now) {
         Ok(done) => {
-            let reply = Reply::Committed {
+            let line = Line::Committed {
                 number: done.number,
                 stamp: done.stamp,
             };
-            (Answer::Done(reply), catalog.into_area())
+            (Answer::Reply(line), catalog.into_area())
         }
         Err(error) => (Answer::of_commit(error), catalog.into_area()),
     }

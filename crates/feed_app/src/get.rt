@@ -8,13 +8,14 @@ ghost use Rattle.catalog_core.specs.Opened.{IsOpenFor};
 ghost use Rattle.feed_paths.specs.Paths.{without_query};
 ghost use Rattle.feed_paths.specs.declared.hives.ServedHive.{ServedHive};
 ghost use Rattle.feed_app.specs.Frame.{IsDone, KeepsArea};
-ghost use Rattle.feed_app.specs.Gets.{IsOfCatalog, OfDocument, OfHive, Reads, asked_under, get_meaning};
+ghost use Rattle.feed_app.specs.Gets.{IsOfCatalog, OfDocument, OfHive, AnswersPath, asked_under, get_meaning};
 ghost use Rattle.feed_app.specs.Hives.{by_hive, hive_area};
 ghost use Rattle.feed_app.specs.Outside.{AreaRose, Stream, over};
 ghost use Rattle.feed_app.specs.Spelled.{IsOpenAs};
 
-use crate::answer::{Answer, Refusal, Reply};
-use crate::area::AreaName;
+use crate::answer::Answer;
+use crate::hives::hive_name;
+use admin_wire::{AreaName, Line, Refusal};
 use blob_store::{BlobErr, Blobs};
 use catalog_core::{Catalog, Stores, open_catalog};
 use feed_paths::{ServedHive, Target, target_of};
@@ -25,12 +26,13 @@ use std::alloc::Global;
 fn catalog_document<B: Blobs>(alloc: Global, catalog: &mut Catalog<B>, name: &str) -> Answer
     ensures kind { IsOfCatalog result }
     ensures is { (cs : List Stored) → IsOpenFor catalog.old (B.seen catalog.old.area) cs → OfDocument result (doc_at catalog.old.base cs name.now) }
-    ensures stays { StaysOpen catalog.old catalog.new (B.seen catalog.old.area) (B.seen catalog.new.area) (result ≡ Answer.Fault AreaName.Catalog) }
-    ensures other { (hive : ServedHive) → result ≡ Answer.Fault (hive_area hive) → ⊥ }
+    ensures stays { StaysOpen catalog.old catalog.new (B.seen catalog.old.area) (B.seen catalog.new.area)
+        (result ≡ Answer.Reply (Line.Fault AreaName.Catalog)) }
+    ensures other { (hive : ServedHive) → result ≡ Answer.Reply (Line.Fault (hive_area hive)) → ⊥ }
 {
     match catalog.doc(alloc, name) {
-        Ok(Some(bytes)) => Answer::Done(Reply::Document(bytes)),
-        Ok(None) => Answer::Refused(Refusal::Missing),
+        Ok(Some(bytes)) => Answer::Document(bytes),
+        Ok(None) => Answer::Reply(Line::Refused(Refusal::Missing)),
         Err(error) => Answer::of_catalog_read(error),
     }
 }
@@ -38,17 +40,17 @@ fn catalog_document<B: Blobs>(alloc: Global, catalog: &mut Catalog<B>, name: &st
 // The hive's document of this name behind its `d/`.
 fn hive_document<B: Blobs>(alloc: Global, area: &mut B, hive: ServedHive, rest: &str) -> Answer
     ensures is { OfHive hive result rest.now (B.seen area.old).held }
-    ensures cause { result ≡ Answer.Fault (hive_area hive) → HasRisen (B.seen area.old).faults (B.seen area.new).faults }
+    ensures cause { result ≡ Answer.Reply (Line.Fault (hive_area hive)) → HasRisen (B.seen area.old).faults (B.seen area.new).faults }
     ensures same { (B.seen area.new).held ≡ (B.seen area.old).held }
 {
     let Ok(name) = format!(in alloc; "d/{rest}") else {
-        return Answer::Memory;
+        return Answer::Reply(Line::Memory);
     };
     match area.get(alloc, &name) {
-        Ok(Some(bytes)) => Answer::Done(Reply::Document(bytes)),
-        Ok(None) => Answer::Refused(Refusal::Missing),
-        Err(BlobErr::Failed) => Answer::Fault(AreaName::of_hive(hive)),
-        Err(BlobErr::Memory) => Answer::Memory,
+        Ok(Some(bytes)) => Answer::Document(bytes),
+        Ok(None) => Answer::Reply(Line::Refused(Refusal::Missing)),
+        Err(BlobErr::Failed) => Answer::Reply(Line::Fault(AreaName::Hive(hive_name(hive)))),
+        Err(BlobErr::Memory) => Answer::Reply(Line::Memory),
     }
 }
 
@@ -61,10 +63,11 @@ fn document<B: Blobs>(
     content: &mut B,
     path: &str,
 ) -> Answer
-    ensures is { Reads B.Blobs result (without_query path.now) (IsOpenAs catalog.old (B.seen catalog.old.area))
+    ensures is { AnswersPath B.Blobs result (without_query path.now) (IsOpenAs catalog.old (B.seen catalog.old.area))
         (by_hive plain.old semver2.old content.old) (by_hive plain.new semver2.new content.new) }
-    ensures stays { StaysOpen catalog.old catalog.new (B.seen catalog.old.area) (B.seen catalog.new.area) (result ≡ Answer.Fault AreaName.Catalog) }
-    ensures hive_cause { (hive : ServedHive) → result ≡ Answer.Fault (hive_area hive)
+    ensures stays { StaysOpen catalog.old catalog.new (B.seen catalog.old.area) (B.seen catalog.new.area)
+        (result ≡ Answer.Reply (Line.Fault AreaName.Catalog)) }
+    ensures hive_cause { (hive : ServedHive) → result ≡ Answer.Reply (Line.Fault (hive_area hive))
         → AreaRose B.Blobs (by_hive plain.old semver2.old content.old hive) (by_hive plain.new semver2.new content.new hive) }
     ensures keeps { (hive : ServedHive) → KeepsArea B.Blobs (asked_under (without_query path.now) hive)
         (by_hive plain.old semver2.old content.old hive) (by_hive plain.new semver2.new content.new hive) }
@@ -76,9 +79,9 @@ fn document<B: Blobs>(
             ServedHive::SemVer2 => hive_document(alloc, semver2, hive, rest),
             ServedHive::Content => hive_document(alloc, content, hive, rest),
         },
-        Ok(Target::NotYet) => Answer::Refused(Refusal::UnsupportedPath),
-        Ok(Target::Nothing) => Answer::Refused(Refusal::Missing),
-        Err(NoMemory) => Answer::Memory,
+        Ok(Target::NotYet) => Answer::Reply(Line::Refused(Refusal::Unsupported)),
+        Ok(Target::Nothing) => Answer::Reply(Line::Refused(Refusal::Missing)),
+        Err(NoMemory) => Answer::Reply(Line::Memory),
     }
 }
 

@@ -1,42 +1,17 @@
-// The areas of a feed by their names.
+// The hives as reply lines name them.
 ghost use Rattle.std.specs.Prelude.{◌≡◌};
-ghost use Rattle.feed_app.specs.Answers.{area_word};
-ghost use Rattle.feed_app.specs.Hives.{hive_area};
+ghost use Rattle.feed_app.specs.Hives.{hive_name};
 
 use feed_paths::ServedHive;
+use fold_core::HiveName;
 
-/// An area of the feed.
-#[derive(Clone, Copy, Debug, PartialEq, Eq)]
-pub enum AreaName {
-    Catalog,
-    Plain,
-    Semver2,
-    Content,
-    Auto,
-}
-
-impl AreaName {
-    /// The area of a hive.
-    pub fn of_hive(hive: ServedHive) -> AreaName
-        ensures { result ≡ hive_area hive }
-    {
-        match hive {
-            ServedHive::Plain => AreaName::Plain,
-            ServedHive::SemVer2 => AreaName::Semver2,
-            ServedHive::Content => AreaName::Content,
-        }
-    }
-
-    /// The word for it in reply lines.
-    pub fn word(self) -> &'static str
-        ensures { result.now ≡ area_word self }
-    {
-        match self {
-            AreaName::Catalog => "catalog",
-            AreaName::Plain => "plain",
-            AreaName::Semver2 => "semver2",
-            AreaName::Content => "content",
-            AreaName::Auto => "auto",
-        }
+/// The name of a hive whose documents are served.
+pub(crate) fn hive_name(hive: ServedHive) -> HiveName
+    ensures { result ≡ hive_name hive }
+{
+    match hive {
+        ServedHive::Plain => HiveName::Plain,
+        ServedHive::SemVer2 => HiveName::SemVer2,
+        ServedHive::Content => HiveName::Content,
     }
 }

@@ -5,8 +5,8 @@ ghost use Rattle.feed_app.specs.Frame.{IsDone};
 ghost use Rattle.feed_app.specs.Inits.{Inits, init_meaning};
 ghost use Rattle.feed_app.specs.Outside.{Stream, over};
 
-use crate::answer::{Answer, Reply};
-use crate::area::AreaName;
+use crate::answer::Answer;
+use admin_wire::{AreaName, Line};
 use blob_store::Blobs;
 use catalog_core::Stores;
 use std::alloc::Global;
@@ -14,10 +14,10 @@ use std::alloc::Global;
 // Makes the catalog of no commits in the area.
 fn init_at<B: Blobs>(alloc: Global, area: B, base: &str) -> (Answer, B)
     ensures is { Inits base.now (B.seen area).held result.0 (B.seen result.1).held }
-    ensures cause { result.0 ≡ Answer.Fault AreaName.Catalog → HasRisen (B.seen area).faults (B.seen result.1).faults }
+    ensures cause { result.0 ≡ Answer.Reply (Line.Fault AreaName.Catalog) → HasRisen (B.seen area).faults (B.seen result.1).faults }
 {
     match catalog_core::init(alloc, area, base) {
-        Ok(catalog) => (Answer::Done(Reply::Initialised), catalog.into_area()),
+        Ok(catalog) => (Answer::Reply(Line::Initialised), catalog.into_area()),
         Err((error, area)) => (Answer::of_init(error), area),
     }
 }

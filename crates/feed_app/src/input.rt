@@ -3,8 +3,8 @@ ghost use Rattle.std.specs.Prelude.{◌≡◌, IfOk, IfErr};
 ghost use Rattle.feed_base.specs.Counts.{HasRisen};
 ghost use Rattle.feed_app.specs.Publishes.{Brings, NotTaken};
 
-use crate::answer::{Answer, Refusal};
-use admin_wire::{BodyErr, read_publish};
+use crate::answer::Answer;
+use admin_wire::{Line, read_publish};
 use catalog_core::Changes;
 use feed_base::{Source, read_all};
 use std::alloc::Global;
@@ -16,7 +16,7 @@ const MOST_INPUT: u64 = 67_108_864;
 pub(crate) fn take_publish<I: Source>(alloc: Global, input: &mut I) -> Result<Changes, Answer>
     ensures taken { IfOk result (Brings (I.left input.old)) }
     ensures not_taken { IfErr result (λ a. NotTaken a (I.left input.old)) }
-    ensures cause { IfErr result (λ a. a ≡ Answer.FaultInput → HasRisen (I.faults input.old) (I.faults input.new)) }
+    ensures cause { IfErr result (λ a. a ≡ Answer.Reply Line.FaultInput → HasRisen (I.faults input.old) (I.faults input.new)) }
 {
     let body = match read_all(alloc, input, MOST_INPUT) {
         Ok(body) => body,
@@ -24,9 +24,6 @@ pub(crate) fn take_publish<I: Source>(alloc: Global, input: &mut I) -> Result<Ch
     };
     match read_publish(alloc, body.as_slice()) {
         Ok(changes) => Ok(changes),
-        Err(BodyErr::Shape(at)) => Err(Answer::Refused(Refusal::Body(at))),
-        Err(BodyErr::Meta(place, why)) => Err(Answer::Refused(Refusal::Meta { place, why })),
-        Err(BodyErr::Id(_) | BodyErr::Version(_)) => unreachable!(),
-        Err(BodyErr::Memory) => Err(Answer::Memory),
+        Err(error) => Err(Answer::Reply(Line::from(error))),
     }
 }

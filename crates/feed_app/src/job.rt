@@ -9,8 +9,9 @@ ghost use Rattle.feed_app.specs.Jobs.{Builds, job_meaning};
 ghost use Rattle.feed_app.specs.Outside.{AreaRose, Stream, held, over};
 ghost use Rattle.feed_app.specs.Spelled.{IsOpenAs};
 
-use crate::answer::{Answer, Reply};
-use crate::area::AreaName;
+use crate::answer::Answer;
+use crate::hives::hive_name;
+use admin_wire::{AreaName, Line};
 use blob_store::Blobs;
 use catalog_core::{Catalog, Stores, open_catalog};
 use feed_paths::ServedHive;
@@ -29,13 +30,14 @@ fn job_in<H: Hive, B: Blobs>(
 ) -> Answer
     ensures is { Builds H.keeps H.makes hive result (IsMissing catalog.old catalog.new (B.seen catalog.old.area) (B.seen catalog.new.area))
         (IsOpenAs catalog.old (B.seen catalog.old.area)) (B.seen area.old).held (B.seen area.new).held }
-    ensures stays { StaysOpen catalog.old catalog.new (B.seen catalog.old.area) (B.seen catalog.new.area) (result ≡ Answer.Fault AreaName.Catalog) }
-    ensures hive_cause { result ≡ Answer.Fault (hive_area hive) → HasRisen (B.seen area.old).faults (B.seen area.new).faults }
+    ensures stays { StaysOpen catalog.old catalog.new (B.seen catalog.old.area) (B.seen catalog.new.area)
+        (result ≡ Answer.Reply (Line.Fault AreaName.Catalog)) }
+    ensures hive_cause { result ≡ Answer.Reply (Line.Fault (hive_area hive)) → HasRisen (B.seen area.old).faults (B.seen area.new).faults }
 {
     match build_once::<H, B>(alloc, catalog, area) {
-        Ok(RoundOut::Done(number)) => Answer::Done(Reply::Built(hive, number)),
-        Ok(RoundOut::Idle(number)) => Answer::Done(Reply::Idle(hive, number)),
-        Err(error) => Answer::of_round(AreaName::of_hive(hive), error),
+        Ok(RoundOut::Done(number)) => Answer::Reply(Line::Done(hive_name(hive), number)),
+        Ok(RoundOut::Idle(number)) => Answer::Reply(Line::Idle(hive_name(hive), number)),
+        Err(error) => Answer::of_round(AreaName::Hive(hive_name(hive)), error),
     }
 }
 
@@ -51,8 +53,9 @@ fn job_of<B: Blobs>(
     ensures is { Builds (keeps_in hive) (makes_in hive) hive result (IsMissing catalog.old catalog.new (B.seen catalog.old.area) (B.seen catalog.new.area))
         (IsOpenAs catalog.old (B.seen catalog.old.area))
         (held B.Blobs (by_hive plain.old semver2.old content.old hive)) (held B.Blobs (by_hive plain.new semver2.new content.new hive)) }
-    ensures stays { StaysOpen catalog.old catalog.new (B.seen catalog.old.area) (B.seen catalog.new.area) (result ≡ Answer.Fault AreaName.Catalog) }
-    ensures hive_cause { result ≡ Answer.Fault (hive_area hive)
+    ensures stays { StaysOpen catalog.old catalog.new (B.seen catalog.old.area) (B.seen catalog.new.area)
+        (result ≡ Answer.Reply (Line.Fault AreaName.Catalog)) }
+    ensures hive_cause { result ≡ Answer.Reply (Line.Fault (hive_area hive))
         → AreaRose B.Blobs (by_hive plain.old semver2.old content.old hive) (by_hive plain.new semver2.new content.new hive) }
     ensures others { KeepsOthers hive (by_hive plain.old semver2.old content.old) (by_hive plain.new semver2.new content.new) }
 {

@@ -3,7 +3,6 @@
 #![tactic(auto)]
 
 mod answer;
-mod area;
 mod base;
 mod causes;
 mod commit_laws;
@@ -11,6 +10,7 @@ mod committing;
 mod cut;
 mod get;
 mod get_laws;
+mod hives;
 mod init;
 mod input;
 mod job;
@@ -20,9 +20,8 @@ mod publish;
 mod run;
 mod words;
 
-pub use admin_wire::NameKind;
-pub use answer::{Answer, Refusal, Reply};
-pub use area::AreaName;
+pub use admin_wire::{AreaName, Line, NameKind, Refusal};
+pub use answer::Answer;
 pub use catalog_core::Stores;
 pub use commit_laws::{commits_are_found, commits_stop_between};
 pub use feed_base::Status;

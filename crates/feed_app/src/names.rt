@@ -6,9 +6,9 @@ ghost use Rattle.feed_app.specs.Frame.{IsDone};
 ghost use Rattle.feed_app.specs.Names.{AreAsked, NotAsked, NotRead, names_meaning};
 ghost use Rattle.feed_app.specs.Outside.{Stream, over};
 
-use crate::answer::{Answer, Refusal};
+use crate::answer::Answer;
 use crate::committing::commit_into;
-use admin_wire::{BodyErr, NameKind, read_pair};
+use admin_wire::{Line, NameKind, read_pair};
 use blob_store::Blobs;
 use catalog_core::{Change, Changes, Stores};
 use feed_base::Clock;
@@ -28,10 +28,7 @@ fn change_at(
 {
     match read_pair(alloc, kind, place, id, version) {
         Ok(change) => Ok(change),
-        Err(BodyErr::Id(place)) => Err(Answer::Refused(Refusal::Id(place))),
-        Err(BodyErr::Version(place)) => Err(Answer::Refused(Refusal::Version(place))),
-        Err(BodyErr::Memory) => Err(Answer::Memory),
-        Err(BodyErr::Shape(_) | BodyErr::Meta(..)) => unreachable!(),
+        Err(error) => Err(Answer::Reply(Line::from(error))),
     }
 }
 
@@ -46,7 +43,7 @@ fn read_pairs(alloc: Global, kind: NameKind, words: &[String]) -> Result<Changes
         let place = changes.len() as u64;
         let change = change_at(alloc, kind, place, id.as_str(), version.as_str())?;
         let Ok(()) = changes.push(change) else {
-            return Err(Answer::Memory);
+            return Err(Answer::Reply(Line::Memory));
         };
         rest = behind;
     }

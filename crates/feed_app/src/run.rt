@@ -4,8 +4,8 @@ ghost use Rattle.feed_app.specs.Commands.{command_of, texts};
 ghost use Rattle.feed_app.specs.Does.{Does, reach_of};
 ghost use Rattle.feed_app.specs.Frame.{KeepsValue};
 ghost use Rattle.feed_app.specs.Outside.{bounds, input_of, output_of, outside, over};
-ghost use Rattle.feed_app.specs.Runs.{Runs};
-ghost use Rattle.feed_app.specs.Writes.{Writes};
+ghost use Rattle.feed_app.specs.Runs.{RunsCommand};
+ghost use Rattle.feed_app.specs.Writes.{WritesAnswer};
 
 use crate::answer::Answer;
 use crate::get::get;
@@ -44,14 +44,14 @@ fn act<B: Blobs, I: Source, C: Clock>(
 
 // Writes the text of an answer.
 fn write_answer<O: Sink>(alloc: Global, answer: Answer, output: &mut O) -> Status
-    ensures { Writes answer result.number (output_of O.Sink output.old) (output_of O.Sink output.new) }
+    ensures { WritesAnswer answer result.number (output_of O.Sink output.old) (output_of O.Sink output.new) }
 {
-    let number = answer.status();
+    let status = answer.status();
     let Ok(text) = answer.text(alloc) else {
         return Status { number: 8 };
     };
     match output.write(text.as_slice()) {
-        Ok(()) => Status { number },
+        Ok(()) => status,
         Err(_) => Status { number: 5 },
     }
 }
@@ -73,7 +73,7 @@ pub fn run_command<B: Blobs, I: Source, O: Sink, C: Clock>(
     output: &mut O,
     clock: &mut C,
 ) -> (Status, Stores<B>)
-    ensures { Runs (bounds B.Blobs I.Source O.Sink C.Clock) (texts words.now) (outside stores input.old output.old clock.old) result.0.number
+    ensures { RunsCommand (bounds B.Blobs I.Source O.Sink C.Clock) (texts words.now) (outside stores input.old output.old clock.old) result.0.number
         (outside result.1 input.new output.new clock.new) }
 {
     let (answer, stores) = act(alloc, words, stores, input, clock);

@@ -9,7 +9,13 @@ differs b off on = cc
 
 pub returns-then-is_name : goal.returns-then-is_name
 returns-then-is_name c = tested _ c.args.text.now (
-  λ is. (c.in-Some.names.front.now, c.in-Some.names.back.now, c.is_name.ensures.0 c.if-is_name.true, c.is_name-then-is_name.ensures.0 is, sym c.as_bytes.ensures.value ∙ c.in-Some.ensures.found),
+  λ is. (
+    c.in-Some.names.front.now,
+    c.in-Some.names.back.now,
+    c.is_name.ensures.0 c.if-is_name.true,
+    c.is_name-then-is_name.ensures.0 is,
+    sym c.as_bytes.ensures.value ∙ c.in-Some.ensures.found,
+  ),
   λ base.
       let same = c.in-Some.ensures.exact base.0 base.1 (free_name base.0 base.2) (c.as_bytes.ensures.value ∙ base.4) in
       c.is_name-then-is_name.ensures.1 (subst IsName (sym same.1) base.3),

@@ -6,9 +6,10 @@ use Rattle.feed_app.proofs.Left.{commit_found}
 use Rattle.feed_app.proofs.commit_laws.commits_are_found.Goals as goal
 
 pub returns-clause-found : goal.returns-clause-found
-returns-clause-found g c = λ words command before after status run asked commits zero.
+returns-clause-found g c = λ words before after status run command asked commits zero.
     let b = bounds g.B.Blobs g.I.Source g.O.Sink g.C.Clock in
-    commit_found b.blobs (sight b before) (sight b after) run.answer command commits (done b words before after status run command asked).acts (zero_answer b words before after status run zero)
+    commit_found b.blobs (sight b before) (sight b after) run.answer command commits (done b words before after status run command asked).acts
+    (zero_answer b words before after status run zero)
 
 pub returns-clause-init : goal.returns-clause-init
 returns-clause-init g c = λ base text. (none_catalog, none_spelled base text)

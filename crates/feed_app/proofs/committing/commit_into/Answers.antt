@@ -10,8 +10,9 @@ pub returns-in-Err-clause-ends : goal.returns-in-Err-clause-ends
 returns-in-Err-clause-ends g c =
     let s = g.B.Blobs.seen c.args.area in
     let now = g.B.Blobs.seen c.in-Err.area in
-    let closed = subst (λ (a : Answer). NotOpened a s) (sym c.of_opening.ensures) (closed_by c.in-Err.error s _ c.in-Err.ensures.missing c.in-Err.ensures.damaged c.in-Err.ensures.refused) in
-    inl (inl closed, closed_spelled s now _ _ c.in-Err.ensures.mends_refused c.in-Err.ensures.refused c.in-Err.ensures.moments_refused, refl)
+    let closed = subst (λ (a : Answer). NotOpened a s) (sym c.of_opening.ensures)
+    (closed_by c.in-Err.error s _ c.in-Err.ensures.missing c.in-Err.ensures.damaged c.in-Err.ensures.refused) in
+    inl (closed, closed_spelled s now _ _ c.in-Err.ensures.mends_refused c.in-Err.ensures.refused c.in-Err.ensures.moments_refused, refl)
 
 pub returns-in-Ok-commit-clause-ends : goal.returns-in-Ok-commit-clause-ends
 returns-in-Ok-commit-clause-ends g c =
@@ -24,7 +25,8 @@ returns-in-Ok-commit-clause-ends g c =
       Ok c.in-Ok-commit.done,
       c.moment-now.ensures,
       refl,
-      commits_behind s now _ c.in-Ok.catalog c.commit.new.self c.args.changes.now c.moment-now.result (Ok c.in-Ok-commit.done) spelled opened c.commit.ensures.base c.in-Ok-commit.ensures.commits c.commit.ensures.moments,
+      commits_behind s now _ c.in-Ok.catalog c.commit.new.self c.args.changes.now c.moment-now.result
+          (Ok c.in-Ok-commit.done) spelled opened c.commit.ensures.base c.in-Ok-commit.ensures.commits c.commit.ensures.moments,
     ))
 
 pub returns-in-Err-commit-clause-ends : goal.returns-in-Err-commit-clause-ends
@@ -38,5 +40,6 @@ returns-in-Err-commit-clause-ends g c =
       Err c.in-Err-commit.error,
       c.moment-now.ensures,
       c.of_commit.ensures,
-      commits_behind s now _ c.in-Ok.catalog c.commit.new.self c.args.changes.now c.moment-now.result (Err c.in-Err-commit.error) spelled opened c.commit.ensures.base c.in-Err-commit.ensures.commits c.commit.ensures.moments,
+      commits_behind s now _ c.in-Ok.catalog c.commit.new.self c.args.changes.now c.moment-now.result
+          (Err c.in-Err-commit.error) spelled opened c.commit.ensures.base c.in-Err-commit.ensures.commits c.commit.ensures.moments,
     ))

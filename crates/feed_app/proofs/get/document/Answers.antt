@@ -9,10 +9,12 @@ use Rattle.feed_app.proofs.Places.{but_content, but_plain, but_semver2, content_
 use Rattle.feed_app.proofs.get.document.Goals as goal
 
 pub returns-in-Ok-Nothing-clause-keeps : goal.returns-in-Ok-Nothing-clause-keeps
-returns-in-Ok-Nothing-clause-keeps g c = λ hive. kept g.B.Blobs (without_query c.args.path.now) hive (by_hive c.args.plain.now c.args.semver2.now c.args.content.now hive)
+returns-in-Ok-Nothing-clause-keeps g c = λ hive. kept g.B.Blobs (without_query c.args.path.now) hive
+    (by_hive c.args.plain.now c.args.semver2.now c.args.content.now hive)
 
 pub returns-in-Err-clause-keeps : goal.returns-in-Err-clause-keeps
-returns-in-Err-clause-keeps g c = λ hive. kept g.B.Blobs (without_query c.args.path.now) hive (by_hive c.args.plain.now c.args.semver2.now c.args.content.now hive)
+returns-in-Err-clause-keeps g c = λ hive. kept g.B.Blobs (without_query c.args.path.now) hive
+    (by_hive c.args.plain.now c.args.semver2.now c.args.content.now hive)
 
 pub returns-in-Plain-clause-is : goal.returns-in-Plain-clause-is
 returns-in-Plain-clause-is g c =
@@ -45,7 +47,8 @@ returns-in-SemVer2-clause-is g c =
 pub returns-in-SemVer2-clause-keeps : goal.returns-in-SemVer2-clause-keeps
 returns-in-SemVer2-clause-keeps g c =
     let named : IsHivePath c.in-Ok-Hive.hive (without_query c.args.path.now) c.in-Ok-Hive.rest.now = rw c.in-Ok-Hive.field-0-is at c.in-Ok-Hive.ensures.names in
-    semver2_kept g.B.Blobs (without_query c.args.path.now) c.in-Ok-Hive.rest.now c.args.plain.now c.args.semver2.now c.args.content.now c.hive_document-in-SemVer2.new.area
+    semver2_kept g.B.Blobs (without_query c.args.path.now) c.in-Ok-Hive.rest.now c.args.plain.now c.args.semver2.now c.args.content.now
+    c.hive_document-in-SemVer2.new.area
     (rw c.in-SemVer2.is at named) c.hive_document-in-SemVer2.ensures.same
 
 pub returns-in-Content-clause-is : goal.returns-in-Content-clause-is
@@ -62,7 +65,8 @@ returns-in-Content-clause-is g c =
 pub returns-in-Content-clause-keeps : goal.returns-in-Content-clause-keeps
 returns-in-Content-clause-keeps g c =
     let named : IsHivePath c.in-Ok-Hive.hive (without_query c.args.path.now) c.in-Ok-Hive.rest.now = rw c.in-Ok-Hive.field-0-is at c.in-Ok-Hive.ensures.names in
-    content_kept g.B.Blobs (without_query c.args.path.now) c.in-Ok-Hive.rest.now c.args.plain.now c.args.semver2.now c.args.content.now c.hive_document-in-Content.new.area
+    content_kept g.B.Blobs (without_query c.args.path.now) c.in-Ok-Hive.rest.now c.args.plain.now c.args.semver2.now c.args.content.now
+    c.hive_document-in-Content.new.area
     (rw c.in-Content.is at named) c.hive_document-in-Content.ensures.same
 
 pub returns-in-Plain-clause-stays : goal.returns-in-Plain-clause-stays
@@ -73,12 +77,14 @@ returns-in-Plain-clause-stays g c = stays_as _ _ _ (g.met.B.Blobs.now c.args.cat
 pub returns-in-SemVer2-clause-stays : goal.returns-in-SemVer2-clause-stays
 returns-in-SemVer2-clause-stays g c = stays_as _ _ _ (g.met.B.Blobs.now c.args.catalog.now.area)
     (λ failed. no_hive_area c.in-Ok-Hive.hive
-    (subst (λ (a : Answer). OfHive c.in-Ok-Hive.hive a c.in-Ok-Hive.rest.now (g.B.Blobs.seen c.args.semver2.now).held) failed c.hive_document-in-SemVer2.ensures.is))
+    (subst (λ (a : Answer). OfHive c.in-Ok-Hive.hive a c.in-Ok-Hive.rest.now (g.B.Blobs.seen c.args.semver2.now).held) failed
+    c.hive_document-in-SemVer2.ensures.is))
 
 pub returns-in-Content-clause-stays : goal.returns-in-Content-clause-stays
 returns-in-Content-clause-stays g c = stays_as _ _ _ (g.met.B.Blobs.now c.args.catalog.now.area)
     (λ failed. no_hive_area c.in-Ok-Hive.hive
-    (subst (λ (a : Answer). OfHive c.in-Ok-Hive.hive a c.in-Ok-Hive.rest.now (g.B.Blobs.seen c.args.content.now).held) failed c.hive_document-in-Content.ensures.is))
+    (subst (λ (a : Answer). OfHive c.in-Ok-Hive.hive a c.in-Ok-Hive.rest.now (g.B.Blobs.seen c.args.content.now).held) failed
+    c.hive_document-in-Content.ensures.is))
 
 pub returns-in-Ok-NotYet-clause-stays : goal.returns-in-Ok-NotYet-clause-stays
 returns-in-Ok-NotYet-clause-stays g c = stays_as _ _ _ (g.met.B.Blobs.now c.args.catalog.now.area) (λ failed. let no : ⊥ = cc in no)

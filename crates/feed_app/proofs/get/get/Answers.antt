@@ -17,21 +17,29 @@ pub returns-in-Ok : goal.returns-in-Ok
 returns-in-Ok g c = λ input clock.
     let s = g.B.Blobs.seen c.args.stores.catalog in
     let now = g.B.Blobs.seen c.in-Ok.catalog.area in
-    let left = record c.args.stores { catalog = c.into_area.result; plain = c.document-answer.new.plain; semver2 = c.document-answer.new.semver2; content = c.document-answer.new.content } in
+    let left = record c.args.stores {
+      catalog = c.into_area.result;
+      plain = c.document-answer.new.plain;
+      semver2 = c.document-answer.new.semver2;
+      content = c.document-answer.new.content;
+    } in
     let opened = open_over s now c.in-Ok.catalog _ c.in-Ok.ensures.opened in
     let spelled = opened_spelled s now c.in-Ok.catalog c.in-Ok.ensures.mends.area opened c.in-Ok.ensures.moments in
     let is = inr (reads_as g.B.Blobs c.document-answer.result (without_query c.args.path.now) (IsOpenAs c.in-Ok.catalog now) (HasCatalog s)
     (hive_stores c.args.stores) (hive_stores left) opened c.document-answer.ensures.is) in
     record {
       keeps = record {
-        catalog = subst (λ x. StaysSpelled s (g.B.Blobs.seen x)) (sym c.into_area.ensures) (then_spelled s now _ c.in-Ok.catalog _ _ spelled opened c.document-answer.ensures.stays);
+        catalog = subst (λ x. StaysSpelled s (g.B.Blobs.seen x)) (sym c.into_area.ensures)
+            (then_spelled s now _ c.in-Ok.catalog _ _ spelled opened c.document-answer.ensures.stays);
         plain = c.document-answer.ensures.keeps the.Plain;
         semver2 = c.document-answer.ensures.keeps the.SemVer2;
         content = c.document-answer.ensures.keeps the.Content;
         auto = refl;
       };
-      explains = explains g.B.Blobs c.args.path.now (over c.args.stores input clock) (over left input clock) c.document-answer.result (hive_stores c.args.stores) (hive_stores left)
-          (λ e. subst (λ x. HasRisen s.faults (g.B.Blobs.seen x).faults) (sym c.into_area.ensures) (fault_rose s now _ _ c.in-Ok.ensures.mends c.document-answer.ensures.stays.mends e))
+      explains = explains g.B.Blobs c.args.path.now (over c.args.stores input clock) (over left input clock) c.document-answer.result
+          (hive_stores c.args.stores) (hive_stores left)
+          (λ e. subst (λ x. HasRisen s.faults (g.B.Blobs.seen x).faults) (sym c.into_area.ensures)
+          (fault_rose s now _ _ c.in-Ok.ensures.mends c.document-answer.ensures.stays.mends e))
           c.document-answer.ensures.hive_cause is;
       acts = is;
     }
@@ -42,7 +50,8 @@ returns-in-Err g c = λ input clock.
     let now = g.B.Blobs.seen c.in-Err.area in
     let left = record c.args.stores { catalog = c.in-Err.area } in
     let path = without_query c.args.path.now in
-    let closed = subst (λ (a : Answer). NotOpened a s) (sym c.of_opening.ensures) (closed_by c.in-Err.error s _ c.in-Err.ensures.missing c.in-Err.ensures.damaged c.in-Err.ensures.refused) in
+    let closed = subst (λ (a : Answer). NotOpened a s) (sym c.of_opening.ensures)
+    (closed_by c.in-Err.error s _ c.in-Err.ensures.missing c.in-Err.ensures.damaged c.in-Err.ensures.refused) in
     let is = inl (closed, λ hive. refl) in
     record {
       keeps = record {
@@ -52,7 +61,9 @@ returns-in-Err g c = λ input clock.
         content = kept g.B.Blobs path the.Content c.args.stores.content;
         auto = refl;
       };
-      explains = explains g.B.Blobs c.args.path.now (over c.args.stores input clock) (over left input clock) c.of_opening.result (hive_stores c.args.stores) (hive_stores left)
-          (closed_rose c.in-Err.error s now c.of_opening.result c.of_opening.ensures c.in-Err.ensures.mends_refused) (λ hive. not_of_hive c.of_opening.result s hive closed) is;
+      explains = explains g.B.Blobs c.args.path.now (over c.args.stores input clock) (over left input clock) c.of_opening.result (hive_stores c.args.stores)
+          (hive_stores left)
+          (closed_rose c.in-Err.error s now c.of_opening.result c.of_opening.ensures c.in-Err.ensures.mends_refused)
+          (λ hive. not_of_hive c.of_opening.result s hive closed) is;
       acts = is;
     }

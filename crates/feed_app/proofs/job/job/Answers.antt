@@ -20,17 +20,26 @@ returns-in-Ok g c = λ input clock.
     let hive = c.args.hive in
     let s = m.seen c.args.stores.catalog in
     let now = m.seen c.in-Ok.catalog.area in
-    let left = record c.args.stores { catalog = c.into_area.result; plain = c.job_of-answer.new.plain; semver2 = c.job_of-answer.new.semver2; content = c.job_of-answer.new.content } in
+    let left = record c.args.stores {
+      catalog = c.into_area.result;
+      plain = c.job_of-answer.new.plain;
+      semver2 = c.job_of-answer.new.semver2;
+      content = c.job_of-answer.new.content;
+    } in
     let opened = open_over s now c.in-Ok.catalog _ c.in-Ok.ensures.opened in
     let spelled = opened_spelled s now c.in-Ok.catalog c.in-Ok.ensures.mends.area opened c.in-Ok.ensures.moments in
     job_done m hive (over c.args.stores input clock) (over left input clock) c.job_of-answer.result
     (job_keeps m c.args.stores left hive
-    (subst (λ x. StaysSpelled s (m.seen x)) (sym c.into_area.ensures) (then_spelled s now _ c.in-Ok.catalog _ _ spelled opened c.job_of-answer.ensures.stays)) c.job_of-answer.ensures.others refl)
-    (λ e. subst (λ x. HasRisen s.faults (m.seen x).faults) (sym c.into_area.ensures) (fault_rose s now _ _ c.in-Ok.ensures.mends c.job_of-answer.ensures.stays.mends e))
+    (subst (λ x. StaysSpelled s (m.seen x)) (sym c.into_area.ensures) (then_spelled s now _ c.in-Ok.catalog _ _ spelled opened c.job_of-answer.ensures.stays))
+    c.job_of-answer.ensures.others refl)
+    (λ e. subst (λ x. HasRisen s.faults (m.seen x).faults) (sym c.into_area.ensures)
+    (fault_rose s now _ _ c.in-Ok.ensures.mends c.job_of-answer.ensures.stays.mends e))
     c.job_of-answer.ensures.hive_cause
     (inr (builds_as (keeps_in hive) (makes_in hive) hive (IsOpenAs c.in-Ok.catalog now) (HasCatalog s)
-    (IsMissing c.in-Ok.catalog c.job_of-answer.new.catalog now (m.seen c.job_of-answer.new.catalog.area)) (IsUnread s.held) (held m (hive_stores c.args.stores hive)) (held m (hive_stores left hive))
-    (λ name missing. unread c.in-Ok.catalog c.job_of-answer.new.catalog now _ c.in-Ok.ensures.settled c.job_of-answer.ensures.stays name missing s.held c.in-Ok.ensures.mends.area) opened c.job_of-answer.result c.job_of-answer.ensures.is))
+    (IsMissing c.in-Ok.catalog c.job_of-answer.new.catalog now (m.seen c.job_of-answer.new.catalog.area)) (IsUnread s.held)
+    (held m (hive_stores c.args.stores hive)) (held m (hive_stores left hive))
+    (λ name missing. unread c.in-Ok.catalog c.job_of-answer.new.catalog now _ c.in-Ok.ensures.settled c.job_of-answer.ensures.stays name missing s.held
+    c.in-Ok.ensures.mends.area) opened c.job_of-answer.result c.job_of-answer.ensures.is))
 
 pub returns-in-Err : goal.returns-in-Err
 returns-in-Err g c = λ input clock.
@@ -39,7 +48,10 @@ returns-in-Err g c = λ input clock.
     let s = m.seen c.args.stores.catalog in
     let now = m.seen c.in-Err.area in
     let left = record c.args.stores { catalog = c.in-Err.area } in
-    let closed = subst (λ (a : Answer). NotOpened a s) (sym c.of_opening.ensures) (closed_by c.in-Err.error s _ c.in-Err.ensures.missing c.in-Err.ensures.damaged c.in-Err.ensures.refused) in
+    let closed = subst (λ (a : Answer). NotOpened a s) (sym c.of_opening.ensures)
+    (closed_by c.in-Err.error s _ c.in-Err.ensures.missing c.in-Err.ensures.damaged c.in-Err.ensures.refused) in
     job_done m hive (over c.args.stores input clock) (over left input clock) c.of_opening.result
-    (job_keeps m c.args.stores left hive (closed_spelled s now _ _ c.in-Err.ensures.mends_refused c.in-Err.ensures.refused c.in-Err.ensures.moments_refused) (λ other not. refl) refl)
-    (closed_rose c.in-Err.error s now c.of_opening.result c.of_opening.ensures c.in-Err.ensures.mends_refused) (not_of_hive c.of_opening.result s hive closed) (inl (closed, refl))
+    (job_keeps m c.args.stores left hive (closed_spelled s now _ _ c.in-Err.ensures.mends_refused c.in-Err.ensures.refused c.in-Err.ensures.moments_refused)
+    (λ other not. refl) refl)
+    (closed_rose c.in-Err.error s now c.of_opening.result c.of_opening.ensures c.in-Err.ensures.mends_refused) (not_of_hive c.of_opening.result s hive closed)
+    (inl (closed, refl))

@@ -11,6 +11,7 @@ returns g c = λ input. record {
   explains =
       end_explains g.B.Blobs (over c.args.stores input (g.C.Clock.answers c.args.clock.now))
       (over (record c.args.stores { catalog = c.commit_into-answer.result.1 }) input (g.C.Clock.answers c.commit_into-answer.new.clock))
-      (names_meaning g.B.Blobs c.args.kind (pairs_of (texts c.args.words.now))).reach tt c.in-Ok.changes _ _ c.commit_into-answer.result.0 c.commit_into-answer.ensures.cause c.commit_into-answer.ensures.ends;
+      (names_meaning g.B.Blobs c.args.kind (pairs_of (texts c.args.words.now))).reach tt c.in-Ok.changes _ _ c.commit_into-answer.result.0
+      c.commit_into-answer.ensures.cause c.commit_into-answer.ensures.ends;
   acts = inr (c.in-Ok.changes, c.in-Ok.ensures.ok, c.commit_into-answer.ensures.ends);
 }

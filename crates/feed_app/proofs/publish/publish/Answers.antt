@@ -9,7 +9,9 @@ returns g c = record {
   keeps = search rules;
   explains =
       end_explains g.B.Blobs (over c.args.stores (input_of g.I.Source c.args.input.now) (g.C.Clock.answers c.args.clock.now))
-      (over (record c.args.stores { catalog = c.commit_into-answer.result.1 }) (input_of g.I.Source c.take_publish.new.input) (g.C.Clock.answers c.commit_into-answer.new.clock))
-      (publish_meaning g.B.Blobs).reach tt c.in-Ok.changes _ _ c.commit_into-answer.result.0 c.commit_into-answer.ensures.cause c.commit_into-answer.ensures.ends;
+      (over (record c.args.stores { catalog = c.commit_into-answer.result.1 }) (input_of g.I.Source c.take_publish.new.input)
+      (g.C.Clock.answers c.commit_into-answer.new.clock))
+      (publish_meaning g.B.Blobs).reach tt c.in-Ok.changes _ _ c.commit_into-answer.result.0 c.commit_into-answer.ensures.cause
+      c.commit_into-answer.ensures.ends;
   acts = inr (c.in-Ok.changes, c.in-Ok.ensures.taken, c.commit_into-answer.ensures.ends);
 }

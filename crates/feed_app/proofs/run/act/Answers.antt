@@ -9,4 +9,5 @@ returns-in-Some-Get-clause-does g c =
     let input = input_of g.I.Source c.args.input.now in
     let clock = g.C.Clock.answers c.args.clock.now in
     let meant : Some (Get c.in-Some-Get.path.now) ≡ command_of (texts c.args.words.now) = rw c.in-Some-Get.field-0-is at c.in-Some-Get.ensures in
-    subst (λ (o : Option Command). Does g.B.Blobs o (over c.args.stores input clock) c.get.result.0 (over c.get.result.1 input clock)) meant (c.get.ensures input clock)
+    subst (λ (o : Option Command). Does g.B.Blobs o (over c.args.stores input clock) c.get.result.0 (over c.get.result.1 input clock)) meant
+    (c.get.ensures input clock)
