@@ -1,0 +1,4 @@
+pub mod Named
+pub mod Passes
+pub mod Placing
+pub mod Told
