@@ -1,6 +1,6 @@
 // The bodies that `publish` takes, and those that it refuses.
-use crate::runs::{DONE, Exchange, LEAF, PAGE, behind, empty, holds, run, with_body};
 use feed_base::NoMemory;
+use feed_runs::{DONE, Exchange, FOO, LEAF, PAGE, behind, holds, run, with_body};
 use std::alloc::Global;
 use std::test::Fail;
 
@@ -214,6 +214,33 @@ fn bodies_are_refused(rt: HostRuntime) -> Result<(), Fail> {
         let (told, output, _) = run(alloc, stores, &["publish"], with_body(body))?;
         assert_eq!(rt; told, 3, "{body}");
         assert_eq!(rt; output.bytes(), line.as_bytes(), "{body}");
+    }
+    Ok(())
+}
+
+// So many records of the same version.
+fn records(alloc: Global, count: u32) -> Result<String, NoMemory> {
+    let mut body = String::new(alloc);
+    for _ in 0..count {
+        body.push_str(FOO)?;
+    }
+    Ok(body)
+}
+
+#[test]
+fn a_commit_takes_1_to_64_changes(rt: HostRuntime) -> Result<(), Fail> {
+    let alloc = rt.alloc();
+    for (count, line) in [
+        (0, "refused empty\n"),
+        (64, "refused twice 1\n"),
+        (65, "refused toomany 65\n"),
+        (200, "refused toomany 200\n"),
+    ] {
+        let stores = behind(alloc, 1, &[], &[])?;
+        let body = records(alloc, count)?;
+        let (told, output, _) = run(alloc, stores, &["publish"], with_body(&body))?;
+        assert_eq!(rt; told, 3, "{count}");
+        assert_eq!(rt; output.bytes(), line.as_bytes(), "{count}");
     }
     Ok(())
 }

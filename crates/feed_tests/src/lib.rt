@@ -1,4 +1,5 @@
-//! Tests of the feed over stores, sources, sinks and clocks in memory, and over a folder; and of the paths of documents.
+//! Tests of stores, sources, sinks and clocks in memory, of a store in a folder, of the paths of documents, and of the
+//! bodies that `publish` takes.
 //!
 //! This crate has nothing but tests: what a clause says is proved where the function stands.
 #![tactic(auto)]
@@ -8,14 +9,8 @@ mod blobs;
 #[cfg(test)]
 mod bodies;
 #[cfg(test)]
-mod commands;
-#[cfg(test)]
-mod failures;
-#[cfg(test)]
 mod folders;
 #[cfg(test)]
 mod outside;
 #[cfg(test)]
 mod paths;
-#[cfg(test)]
-mod runs;

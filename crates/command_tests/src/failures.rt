@@ -1,9 +1,9 @@
 // Calls that fail, and documents that are damaged or lost.
-use crate::runs::{
-    BAR, DONE, FIRST, FOO, INDEX, LEAF, MISSING, PAGE, VERSIONS, behind, empty, run, with_body,
-};
 use blob_store::{Blobs, Fail as Fault};
 use feed_base::NoMemory;
+use feed_runs::{
+    BAR, DONE, FIRST, FOO, INDEX, LEAF, MISSING, PAGE, VERSIONS, behind, empty, run, with_body,
+};
 use std::alloc::Global;
 use std::test::Fail;
 

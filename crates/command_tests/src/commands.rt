@@ -1,8 +1,13 @@
 // The program's commands, from words to status and text, over stores in memory.
-use crate::runs::{
+use blob_store::MemBlobs;
+use feed_app::Stores;
+use feed_base::NoMemory;
+use feed_runs::{
     BAR, DONE, Exchange, FIRST, FOO, Given, INDEX, LAST, LEAF, MISSING, NEW_YEAR, PAGE, USAGE,
-    VERSIONS, behind, empty, follow, holds, run, with_body,
+    VERSIONS, behind, empty, holds, run, with_body,
 };
+use std::alloc::Global;
+use std::process::Abort;
 use std::test::Fail;
 
 const SHORT: &str = "28 10 3\n{\"id\":\"Foo\",\"version\":\"1.0\"}<package/>abc";
@@ -24,6 +29,22 @@ const SEMVER2_INDEX: &str =
 
 const SEMVER2_LEAF: &str =
     "{\"@id\":\"http://f.test/v3/registration-semver2/foo/1.0.0.json\",\"catalogEntry\":\"http://f.test/v3/catalog/data/1/0.json\",\"listed\":true,\"packageContent\":\"http://f.test/v3/flat/foo/1.0.0/foo.1.0.0.nupkg\",\"published\":\"2024-01-01T00:00:00.0000000Z\",\"registration\":\"http://f.test/v3/registration-semver2/foo/index.json\"}";
+
+// Asserts what each of the exchanges answers, from empty stores on.
+fn follow(
+    rt: &impl Abort,
+    alloc: Global,
+    exchanges: &[Exchange<'_>],
+) -> Result<Stores<MemBlobs>, NoMemory> {
+    let mut stores = empty(alloc, &[], &[])?;
+    for (place, (words, body, status, text)) in exchanges.iter().enumerate() {
+        let (told, output, left) = run(alloc, stores, words, with_body(body))?;
+        assert_eq!(rt; told, *status, "exchange {place}");
+        assert_eq!(rt; output.bytes(), text.as_bytes(), "exchange {place}");
+        stores = left;
+    }
+    Ok(stores)
+}
 
 #[test]
 fn tells_each_status(rt: HostRuntime) -> Result<(), Fail> {
