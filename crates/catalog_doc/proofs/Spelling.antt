@@ -53,12 +53,12 @@ page_is base cs filled few =
     (last_has base 0 (pages_of cs) (length (pages_of cs) - 1) some (omega arith) (omega arith))
 
 -- an area that holds at a commit's names what another one does
-record AgreeAt (m left : Area) (c : Stored) : Type 0 where
-  leaf : (place : ℕ) → get left (leaf_name c.commit.number place) ≡ get m (leaf_name c.commit.number place)
-  nupkg : (place : ℕ) → get left (nupkg_name c.commit.number place) ≡ get m (nupkg_name c.commit.number place)
-  nuspec : (place : ℕ) → get left (nuspec_name c.commit.number place) ≡ get m (nuspec_name c.commit.number place)
+pub record AgreeAt (m left : Area) (c : Stored) : Type 0 where
+  pub leaf : (place : ℕ) → get left (leaf_name c.commit.number place) ≡ get m (leaf_name c.commit.number place)
+  pub nupkg : (place : ℕ) → get left (nupkg_name c.commit.number place) ≡ get m (nupkg_name c.commit.number place)
+  pub nuspec : (place : ℕ) → get left (nuspec_name c.commit.number place) ≡ get m (nuspec_name c.commit.number place)
 
-holds_by : (m left : Area) (base : List ℕ) (c : Stored) → AgreeAt m left c → HoldsCommit m base c → HoldsCommit left base c
+pub holds_by : (m left : Area) (base : List ℕ) (c : Stored) → AgreeAt m left c → HoldsCommit m base c → HoldsCommit left base c
 holds_by m left base c agree holds = record {
   leaves = λ place it is. agree.leaf place ∙ holds.leaves place it is;
   nupkgs = λ place s is. agree.nupkg place ∙ holds.nupkgs place s is;
@@ -81,24 +81,24 @@ document_apart call m c leaf nupkg nuspec = record {
   nuspec = λ place. get_past call m (nuspec_name c.commit.number place) (nuspec c.commit.number place);
 }
 
-page_apart : (k : ℕ) (bytes : List ℕ) (m : Area) (c : Stored) → AgreeAt m (after_call (Put (page_name k) bytes) m) c
+pub page_apart : (k : ℕ) (bytes : List ℕ) (m : Area) (c : Stored) → AgreeAt m (after_call (Put (page_name k) bytes) m) c
 page_apart k bytes m c = document_apart (Put (page_name k) bytes) m c (λ n p. leaf_name-not_page n p k) (λ n p. (nupkg_name-no_document n p).page k) (λ n p. (nuspec_name-no_document n p).page k)
 
-index_apart : (bytes : List ℕ) (m : Area) (c : Stored) → AgreeAt m (after_call (Put index_name bytes) m) c
+pub index_apart : (bytes : List ℕ) (m : Area) (c : Stored) → AgreeAt m (after_call (Put index_name bytes) m) c
 index_apart bytes m c = document_apart (Put index_name bytes) m c leaf_name-not_index (λ n p. (nupkg_name-no_document n p).index) (λ n p. (nuspec_name-no_document n p).index)
 
 -- all names held are known, up to a number
-abbrev AreKnown : ℕ → Area → Type 0
+abbrev pub AreKnown : ℕ → Area → Type 0
 AreKnown most m = (name : List ℕ) → IsSome (get m name) → IsNameUpTo most name
 
-known_after : (most : ℕ) (call : Call) (m : Area) → IsNameUpTo most (name_of call) → AreKnown most m → AreKnown most (after_call call m)
+pub known_after : (most : ℕ) (call : Call) (m : Area) → IsNameUpTo most (name_of call) → AreKnown most m → AreKnown most (after_call call m)
 known_after most call m own known name some = by_test (bytes_eq name (name_of call)) refl
   where
     by_test : (b : Bool) → bytes_eq name (name_of call) ≡ b → IsNameUpTo most name
     by_test true same = subst (IsNameUpTo most) (sym (bytes_eq-true name (name_of call) same)) own
     by_test false apart = known name (subst IsSome (get_past call m name (bytes_eq-false name (name_of call) apart)) some)
 
-wider : (most more : ℕ) (m : Area) → most ≤ more → AreKnown most m → AreKnown more m
+pub wider : (most more : ℕ) (m : Area) → most ≤ more → AreKnown most m → AreKnown more m
 wider most more m least known name some = ⊎_elim inl (λ rest. inr (⊎_elim inl (λ at. inr (at.0, at.1, omega (arith, at.2, least), at.3)) rest)) (known name some)
 
 module _ (base : List ℕ) (number stamp most : ℕ) (within : number ≤ most) where
@@ -221,11 +221,11 @@ module _ (m : Area) (base : List ℕ) (cs : Catalog) (c : Stored) (whole : IsCat
   mid_spells : SpellsCatalog mid base cs
   mid_spells = early mid (front_all places m)
 
-  mid_settled : HoldsIndex mid base cs
+  pub mid_settled : HoldsIndex mid base cs
   mid_settled = get_alone places m index_name (alone index_name index_not_at) ∙ settled
 
   -- before the page the commit's own blobs are held
-  mid_holds : HoldsCommit mid base c
+  pub mid_holds : HoldsCommit mid base c
   mid_holds = record {
     leaves = λ place it is.
         let brought = brought_at (all_placed cs) number c.commit.stamp 0 c.commit.items c.staged follows.items place it is in
