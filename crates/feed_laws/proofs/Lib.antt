@@ -1,0 +1,10 @@
+pub mod Begun
+pub mod CatalogKept
+pub mod Changed
+pub mod Committed
+pub mod HiveKept
+pub mod Kept
+pub mod Lists
+pub mod Moves
+pub mod Passed
+pub mod Restarted

@@ -1,0 +1,7 @@
+pub mod Begins
+pub mod Courses
+pub mod Happenings
+pub mod Rounds
+pub mod Soundness
+pub mod Steps
+pub mod Worlds

@@ -1,0 +1,77 @@
+// What stays true of a feed, whatever happens to it.
+ghost use Rattle.std.specs.Prelude.{◌≡◌, ◌++◌, ◌∷◌, [], ℕ, List, Some, true};
+ghost use Rattle.std.specs.Str.{IsUtf8};
+ghost use Rattle.blob_store.specs.Area.{Area};
+ghost use Rattle.blob_store.specs.Events.{Done};
+ghost use Rattle.pkg_meta.specs.declared.commit.Stored.{Stored};
+ghost use Rattle.catalog_doc.specs.Catalogs.{IsCatalog};
+ghost use Rattle.catalog_doc.specs.Spelled.{HoldsIndex, SpellsCatalog, SpellsOnly};
+ghost use Rattle.fold_core.specs.Docs.{owner};
+ghost use Rattle.fold_core.specs.Folds.{Fold};
+ghost use Rattle.hive_laws.specs.Plans.{IsPassPlan, PassPlan};
+ghost use Rattle.feed_laws.specs.Begins.{AreSoundAreas, IsWorldOf, new_world};
+ghost use Rattle.feed_laws.specs.Courses.{after_commit, all_fine, commit_steps, pass_course};
+ghost use Rattle.feed_laws.specs.Happenings.{Finish, Happening, Hives, PutCursor, Reply};
+ghost use Rattle.feed_laws.specs.Soundness.{CursorsRise, HaveLaws, IsFromScratch, IsSettledNow, Sound, fold_at};
+ghost use Rattle.feed_laws.specs.Steps.{IsClaimed, May, Run, IsStep, commits_in, happens, hive_at};
+ghost use Rattle.feed_laws.specs.Worlds.{HiveNow, Round, World};
+
+/// A feed without commits is sound, and so is the one that the program finds in areas that are those of a catalog and of sound hives:
+/// whatever a crash left. It does nothing.
+pub fn feeds_begin_sound()
+    ensures new { (fs : List Fold) → HaveLaws fs → (base : List ℕ) → IsUtf8 base → Sound fs (new_world base fs) }
+    ensures found { (fs : List Fold) → HaveLaws fs → (area : Area) (ms : List Area) (w : World) → IsWorldOf area ms w
+        → AreSoundAreas w.commits fs ms w.hives → Sound fs w }
+{}
+
+/// Whatever may happen to a sound feed keeps it sound: with each fate of each store call, and with a crash before or after it. It does
+/// nothing.
+pub fn feeds_stay_sound()
+    ensures step { (fs : List Fold) → HaveLaws fs → (w : World) (e : Happening) (reply : Reply) (next : World) → Sound fs w → IsStep fs w e reply next → Sound fs next }
+    ensures run { (fs : List Fold) → HaveLaws fs → (w : World) (es : List Happening) (replies : List Reply) (last : World) → Sound fs w
+        → Run fs w es replies last → Sound fs last }
+{}
+
+/// Catalogs grow by the commits whose page puts took effect, in order, and by no others; and cursors never fall. It does nothing.
+pub fn feeds_grow()
+    ensures commits { (fs : List Fold) (w : World) (es : List Happening) (replies : List Reply) (last : World) → Run fs w es replies last
+        → last.commits ≡ w.commits ++ commits_in es }
+    ensures cursors { (fs : List Fold) → HaveLaws fs → (w : World) (es : List Happening) (replies : List Reply) (last : World) → Sound fs w
+        → Run fs w es replies last → CursorsRise w.hives last.hives }
+{}
+
+/// Each document that is read of a sound feed, also one that isn't there, is the one that a prefix of the catalog has, and this prefix
+/// reaches the hive's cursor. It does nothing.
+pub fn reads_are_fresh()
+    ensures { (fs : List Fold) (w : World) → Sound fs w → (k : ℕ) (f : Fold) (h : HiveNow) → fold_at k fs ≡ Some f → hive_at k w.hives ≡ Some h
+        → (key name : List ℕ) → owner name ≡ Some key → IsFromScratch f w.commits h.cursor key name (h.held name) }
+{}
+
+/// After a cursor's put that is done the hive is exactly what the catalog's commits up to the cursor make. It does nothing.
+pub fn rounds_settle()
+    ensures { (fs : List Fold) → HaveLaws fs → (w : World) (k : ℕ) → Sound fs w → May fs w (Hives k (PutCursor Done))
+        → (f : Fold) (h : HiveNow) → fold_at k fs ≡ Some f → hive_at k (happens (Hives k (PutCursor Done)) w).hives ≡ Some h
+        → IsSettledNow f w.commits h.cursor h }
+{}
+
+/// The puts of a lawful commit, in their order, are steps of a sound feed whose index doesn't lag. It does nothing.
+pub fn commits_are_steps()
+    ensures { (fs : List Fold) (w : World) (c : Stored) → Sound fs w → w.up ≡ true → HoldsIndex w.area w.base w.commits → IsCatalog (w.commits ++ c ∷ [])
+        → Run fs w (commit_steps w.base w.commits c) (all_fine (commit_steps w.base w.commits c)) (after_commit w c) }
+{}
+
+/// The calls of a pass over a claimed id, by a plan to its round's target, are steps of a sound feed, whatever state was found; and
+/// then the id may be finished. It does nothing.
+pub fn passes_are_steps()
+    ensures { (fs : List Fold) → HaveLaws fs → (w : World) → Sound fs w → w.up ≡ true → (k : ℕ) (f : Fold) (h : HiveNow) → fold_at k fs ≡ Some f
+        → hive_at k w.hives ≡ Some h → (key : List ℕ) (r : Round) → IsClaimed h key r → (plan : PassPlan)
+        → IsPassPlan f w.commits key r.target (h.states key) h.held plan
+        → (last : World) × Run fs w (pass_course k key plan) (all_fine (pass_course k key plan)) last × May fs last (Hives k (Finish key)) }
+{}
+
+/// After a run the catalog's area spells one catalog, below one base address: the one that it spelled before, with the commits whose page
+/// puts took effect behind it, in order. That is what an opening finds, also after a crash. It does nothing.
+pub fn restarts_find_commits()
+    ensures { (fs : List Fold) → HaveLaws fs → (w : World) (es : List Happening) (replies : List Reply) (last : World) → Sound fs w
+        → Run fs w es replies last → SpellsCatalog last.area w.base (w.commits ++ commits_in es) × SpellsOnly last.area w.base (w.commits ++ commits_in es) }
+{}
