@@ -1,0 +1,10 @@
+pub mod Behind
+pub mod Calls
+pub mod Docs
+pub mod Given
+pub mod Leads
+pub mod Maps
+pub mod Members
+pub mod Origins
+pub mod Plan
+pub mod Taken
