@@ -56,6 +56,7 @@ module _ (keeps : Keeps) (makes : Makes) (base key : List ℕ) (old : Option Sta
           };
           unmarked = states.unmarked;
           new_names = states.new_names ∙ ap keys all;
+          texts = states.texts;
         },
         is ∙ (λ i. state_put key dirty ∷ (doc_puts (index_name key) (held i) (all i) ++ (removals (index_name key) (all i) (named i) ++ state_put key clean ∷ []))),
       )

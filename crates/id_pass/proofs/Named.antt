@@ -1,7 +1,8 @@
 -- The documents that a map spells.
-use Rattle.std.proofs.Common.{◌≡◌, ℕ, List, [], ◌∷◌, ◌++◌, length, arith, drop, map, String, Bool, Some, None, cond, refl, sym, ◌∙◌, ap, append-nil}
+use Rattle.std.proofs.Common.{All, IsUtf8, zero, suc, ◌≡◌, ℕ, List, [], ◌∷◌, ◌++◌, length, arith, drop, map, String, Bool, Some, None, cond, refl, sym, ◌∙◌, ap, append-nil}
 use Rattle.std.proofs.lemmas.Map.Text.{btree_map_updates_text, is_eq-slice_cmp}
 use Rattle.std.proofs.lemmas.Bool.Decides.{same_from_decides}
+use Rattle.std.proofs.lemmas.Str.{IsUtf8-string_bytes}
 use Rattle.std.proofs.lemmas.Slice.Eq.{bytes_eq-Decides}
 use Rattle.std.specs.BTreeMap.{BTreeMap, IsEmpty, IsOrdered, UpdatesBy, get_by_text, is_at, keys}
 use Rattle.std.specs.Cmp.Lexicographic.{slice_cmp, nat_list_cmp_total}
@@ -93,6 +94,12 @@ pub bytes_rise : {Y : Type 0} (ks : List (String Y)) → IsStrictlySortedBy stri
 unfolding IsStrictlySortedBy
 bytes_rise [] sorted = tt
 bytes_rise (k ∷ ks) sorted = (below_bytes k ks sorted.0, bytes_rise ks sorted.1)
+
+-- texts are UTF-8
+pub keys_are_texts : {Y : Type 0} (ks : List (String Y)) → All IsUtf8 (map string_bytes ks)
+keys_are_texts [] k d within = absurd (omega arith)
+keys_are_texts (x ∷ ks) zero d within = IsUtf8-string_bytes x
+keys_are_texts (x ∷ ks) (suc k) d within = keys_are_texts ks k d (omega (arith, within))
 
 pub named_keys : {Y : Type 0} (es : List (String Y × Body)) → keys_of (map as_named es) ≡ map string_bytes (keys_of es)
 named_keys [] = refl

@@ -1,6 +1,6 @@
 -- The calls of a pass over one id: which they are, and in which order.
 use Rattle.std.specs.Prelude.{◌≡◌, ◌⊎◌, ◌↔◌, ℕ, List, [], ◌∷◌, ◌++◌, map, Bool, true, false, not, ◌&&◌}
-use Rattle.std.specs.Prelude.{Contains, Option, Some, None, if◌then◌else◌}
+use Rattle.std.specs.Prelude.{All, Contains, IsUtf8, Option, Some, None, if◌then◌else◌}
 use Rattle.std.specs.FinMap.{contains_key, empty, entries, get, keys, remove}
 use Rattle.std.specs.List.{filter, list_any}
 use Rattle.std.specs.Str.{bytes_eq}
@@ -107,8 +107,8 @@ abbrev pub state_put : List ℕ → StateDoc → Call
 state_put key s = Put (state_name key) (Made (state_text s))
 
 module _ (keeps : Keeps) (makes : Makes) (base key : List ℕ) (old : Option StateDoc) (items : List Placed) (target : ℕ) where
-  -- The two states of a pass: the dirty one with the old names and the new ones, the clean one with the new names. A state's names are
-  -- in byte order, without repeats.
+  -- The two states of a pass: the dirty one with the old names and the new ones, the clean one with the new names, which are texts. A
+  -- state's names are in byte order, without repeats.
   pub record HasStates (dirty clean : StateDoc) : Type 0 where
     pub dirty_taken : IsTakenIn keeps old items target dirty
     pub marked : dirty.dirty ≡ true
@@ -117,6 +117,7 @@ module _ (keeps : Keeps) (makes : Makes) (base key : List ℕ) (old : Option Sta
     pub clean_taken : IsTakenIn keeps old items target clean
     pub unmarked : clean.dirty ≡ false
     pub new_names : clean.names ≡ keys (docs_by makes base key clean)
+    pub texts : All IsUtf8 clean.names
 
 -- the calls of a pass with these states: the dirty state, the new documents, the removals, the clean state
 abbrev pub pass_calls : Makes → (base key : List ℕ) → Option StateDoc → (dirty clean : StateDoc) → List Call

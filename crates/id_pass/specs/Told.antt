@@ -1,5 +1,5 @@
 -- The states that are made of what was taken in.
-use Rattle.std.specs.Prelude.{◌≡◌, ◌⊎◌, ◌↔◌, ℕ, List, true, false, Contains}
+use Rattle.std.specs.Prelude.{◌≡◌, ◌⊎◌, ◌↔◌, ℕ, List, true, false, All, Contains, IsUtf8}
 use Rattle.pkg_meta.specs.declared.state.StateDoc.{StateDoc}
 use Rattle.id_pass.specs.declared.taking.Taken.{Taken}
 
@@ -18,3 +18,4 @@ pub record AreStatesOf (taken : Taken) (target : ℕ) (old new : List (List ℕ)
   pub clean_of : IsStateOf taken target clean
   pub unmarked : clean.dirty ≡ false
   pub new_names : clean.names ≡ new
+  pub texts : All IsUtf8 clean.names

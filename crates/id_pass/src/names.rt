@@ -1,5 +1,5 @@
 // Names of documents, in byte order and without repeats.
-ghost use Rattle.std.specs.Prelude.{◌≡◌, ◌⊎◌, ◌↔◌, ◌||◌, ℕ, List, map, Contains, IfOk, OnOk, string_bytes};
+ghost use Rattle.std.specs.Prelude.{◌≡◌, ◌⊎◌, ◌↔◌, ◌||◌, ℕ, List, map, All, Contains, IsUtf8, IfOk, OnOk, string_bytes};
 ghost use Rattle.std.specs.BTreeSet.{contains_text};
 ghost use Rattle.std.specs.Cmp.Lexicographic.{slice_cmp};
 ghost use Rattle.std.specs.FinMap.{keys};
@@ -21,6 +21,7 @@ pub(crate) fn names_of(
 ) -> Result<Many<Text>, NoMemory>
     ensures names { IfOk result (λ names. names ≡ keys (bodies_of named.now)) }
     ensures rising { IfOk result (λ names. IsStrictlySortedBy (slice_cmp nat_cmp) names) }
+    ensures texts { IfOk result (λ names. All IsUtf8 names) }
 {
     let mut names = Many::new(alloc);
     for name in named.keys() {

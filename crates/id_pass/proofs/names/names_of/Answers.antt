@@ -1,10 +1,10 @@
-use Rattle.std.proofs.Common.{◌≡◌, List, String, Global, map, refl, sym, subst, ◌∙◌}
+use Rattle.std.proofs.Common.{All, IsUtf8, ◌≡◌, List, String, Global, map, refl, sym, subst, ◌∙◌}
 use Rattle.std.specs.BTreeMap.{keys}
 use Rattle.std.specs.Cmp.Lexicographic.{slice_cmp}
 use Rattle.std.specs.List.Sorted.{IsStrictlySortedBy}
 use Rattle.std.specs.Ordering.{nat_cmp}
 use Rattle.std.specs.String.{string_bytes}
-use Rattle.id_pass.proofs.Named.{bytes_rise, keys-bodies_of}
+use Rattle.id_pass.proofs.Named.{bytes_rise, keys-bodies_of, keys_are_texts}
 use Rattle.id_pass.proofs.Puts.{ended}
 use Rattle.id_pass.proofs.names.names_of.Goals as goal
 
@@ -16,3 +16,6 @@ returns-clause-names c = all_named c ∙ sym (keys-bodies_of c.args.named.now c.
 
 pub returns-clause-rising : goal.returns-clause-rising
 returns-clause-rising c = subst (IsStrictlySortedBy (slice_cmp nat_cmp)) (sym (all_named c)) (bytes_rise (keys c.args.named.now) c.keys-name-items.ensures.ordered)
+
+pub returns-clause-texts : goal.returns-clause-texts
+returns-clause-texts c = subst (All IsUtf8) (sym (all_named c)) (keys_are_texts (keys c.args.named.now))

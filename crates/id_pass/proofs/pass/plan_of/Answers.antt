@@ -1,4 +1,4 @@
-use Rattle.std.proofs.Common.{ℕ, List, [], ◌∷◌, ◌++◌, refl, sym, ap, subst, ◌∙◌, ◌⊎◌}
+use Rattle.std.proofs.Common.{All, IsUtf8, ℕ, List, [], ◌∷◌, ◌++◌, refl, sym, ap, subst, ◌∙◌, ◌⊎◌}
 use Rattle.std.specs.Prelude.{◌↔◌}
 use Rattle.std.specs.FinMap.{keys}
 use Rattle.std.specs.List.{Contains}
@@ -29,6 +29,7 @@ states c = record {
   };
   unmarked = c.clean_state-clean.ensures.dirty;
   new_names = c.clean_state-clean.ensures.names ∙ c.in_ok-new.ensures.names;
+  texts = subst (All IsUtf8) (sym c.clean_state-clean.ensures.names) c.in_ok-new.ensures.texts;
 }
 
 pub returns : goal.returns
