@@ -1,8 +1,10 @@
 -- The calls of a pass, made with the bytes that the catalog has, are those of its plan.
-use Rattle.std.proofs.Common.{◌≡◌, ℕ, List, [], ◌∷◌, ◌++◌, map, Bool, true, false, cond, Option, Some, None, IsSome, refl, sym, ap, ◌∙◌, append_assoc}
+use Rattle.std.proofs.Common.{◌≡◌, ◌≤◌, ℕ, zero, suc, take, length, arith, List, [], ◌∷◌, ◌++◌, map, Bool, true, false, cond, Option, Some, None, IsSome, refl, sym, ap, ◌∙◌, append_assoc}
 use Rattle.std.proofs.lemmas.List.{map-append}
 use Rattle.std.specs.FinMap.{get}
 use Rattle.std.specs.List.{AllByRecursion, Contains, filter}
+use Rattle.blob_store.specs.Area.{Area}
+use Rattle.blob_store.specs.Runs.{IsAfterSome, after_calls}
 use Rattle.blob_store.specs.declared.call.Call.{Call as StoreCall}
 use Rattle.blob_store.specs.declared.call.Call.TheVariants as store
 use Rattle.pkg_meta.specs.Catalog.{Catalog}
@@ -19,7 +21,7 @@ use Rattle.id_pass.specs.Named.{NamedBodies}
 use Rattle.id_pass.specs.Passes.{doc_put, doc_puts, index_put, index_removal, drops_index, is_left_over, is_missing, removals, state_put, written}
 use Rattle.id_pass.specs.declared.call.Call.{Call}
 use Rattle.id_pass.specs.declared.call.Call.TheVariants.{Put, Remove}
-use Rattle.pass_laws.specs.Making.{AreMadeBy, HasBytes, HaveBytes, IsMadeBy}
+use Rattle.pass_laws.specs.Making.{AreMadeBy, AreSomeMadeBy, HasBytes, HaveBytes, IsMadeBy}
 use Rattle.pass_laws.proofs.Plan.{bytes_or, index_bytes, or_same, plan_of, with_bytes}
 
 -- a call with its bytes
@@ -37,6 +39,29 @@ all_made cs [] [] has are = refl
 all_made cs [] (c ∷ made) has are = absurd are
 all_made cs (call ∷ calls) [] has are = absurd are
 all_made cs (call ∷ calls) (c ∷ made) has are = λ i. one_made cs call c has.0 are.0 i ∷ all_made cs calls made has.1 are.1 i
+
+some_are : (cs : Catalog) (calls : List Call) (made : List StoreCall) → HaveBytes cs calls → AreSomeMadeBy cs calls made
+    → (length made ≤ length (map (made_call cs) calls)) × (made ≡ take (length made) (map (made_call cs) calls))
+some_are cs calls [] has are = (omega arith, refl)
+some_are cs [] (c ∷ made) has are = absurd are
+some_are cs (call ∷ calls) (c ∷ made) has are =
+    let rest = some_are cs calls made has.1 are.1 in
+    let few : length made ≤ length (map (made_call cs) calls) = rest.0 in
+    (omega (arith, few), λ i. one_made cs call c has.0 are.0 i ∷ rest.1 i)
+
+taken_twice : {X : Type 0} (xs : List X) (i j : ℕ) → i ≤ j → take i (take j xs) ≡ take i xs
+taken_twice xs zero j le = refl
+taken_twice xs (suc i) zero le = absurd (omega (arith, le))
+taken_twice [] (suc i) (suc j) le = refl
+taken_twice {X = X} (x ∷ xs) (suc i) (suc j) le = ap (λ (l : List X). x ∷ l) (taken_twice xs i j (omega (arith, le)))
+
+-- what is left by some of the calls that some were made of
+pub some_made : (cs : Catalog) (calls : List Call) (made : List StoreCall) (m left : Area) → HaveBytes cs calls → AreSomeMadeBy cs calls made → IsAfterSome made m left
+    → IsAfterSome (map (made_call cs) calls) m left
+some_made cs calls made m left has are (n, few, is) =
+    let some = some_are cs calls made has are in
+    let within : length made ≤ length (map (made_call cs) calls) = some.0 in
+    (n, omega (arith, few, within), is ∙ ap (λ (l : List StoreCall). after_calls l m) (ap (take n) some.1 ∙ taken_twice (map (made_call cs) calls) n (length made) few))
 
 have_joined : (cs : Catalog) (xs ys : List Call) → HaveBytes cs xs → HaveBytes cs ys → HaveBytes cs (xs ++ ys)
 have_joined cs [] ys p q = q

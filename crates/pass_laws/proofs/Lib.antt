@@ -8,3 +8,4 @@ pub mod Members
 pub mod Origins
 pub mod Plan
 pub mod Taken
+pub mod Values

@@ -28,3 +28,9 @@ HasBytes cs (Remove name) = ⊤
 -- of what each call puts
 abbrev pub HaveBytes : Catalog → List Call → Type 0
 HaveBytes cs calls = AllByRecursion (HasBytes cs) calls
+
+-- some of the calls, from the first
+abbrev pub AreSomeMadeBy : Catalog → List Call → List StoreCall → Type 0
+AreSomeMadeBy cs calls [] = ⊤
+AreSomeMadeBy cs [] (c ∷ made) = ⊥
+AreSomeMadeBy cs (call ∷ calls) (c ∷ made) = IsMadeBy cs call c × AreSomeMadeBy cs calls made
