@@ -1,0 +1,5 @@
+pub mod Laws
+pub mod Replies
+pub mod Serving
+pub mod Statuses
+pub mod Steps
