@@ -124,6 +124,7 @@ impl<B: Blobs> Catalog<B> {
     pub fn items_after(&mut self, alloc: Global, cursor: u32) -> Result<Many<Row>, ReadErr>
         ensures reads { (cs : List Stored) → IsOpenFor self.old (B.seen self.old.area) cs → IsRead (rows_above cursor (all_rows cs)) result }
         ensures stays { StaysOpen self.old self.new (B.seen self.old.area) (B.seen self.new.area) (IsErrOf result ReadErr.Fault) }
+        ensures settled { OnOk result (self.new.settled ≡ true) }
         ensures damaged { (m : Area) → (B.seen self.old.area).held ≡ Some m → IfDamagedRead result (IsUnsettled m self.old) }
     {
         self.settle(alloc)?;

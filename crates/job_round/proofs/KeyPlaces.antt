@@ -7,8 +7,7 @@ use Rattle.std.specs.Cmp.{IsEquivalence, decided}
 use Rattle.std.specs.List.{AllByRecursion, IsDistinct}
 use Rattle.std.specs.Option.{is_some, option_or}
 use Rattle.std.specs.Str.{bytes_eq}
-use Rattle.job_round.specs.Keys.{has_key, with_key}
-use Rattle.job_round.specs.States.{key_place}
+use Rattle.job_round.specs.Ids.{has_key, key_place, with_key}
 
 -- a key stands somewhere where it is one of them
 pub place_is : (key : List ℕ) (keys : List (List ℕ)) → is_some (key_place key keys) ≡ has_key key keys

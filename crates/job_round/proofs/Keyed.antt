@@ -1,17 +1,18 @@
--- The keys of the ids that commits speak of: each is one of them, and each is a segment.
-use Rattle.std.proofs.Common.{◌≡◌, ℕ, List, [], ◌∷◌, ◌++◌, Bool, true, false, cond, ◌||◌, refl, sym, ◌∙◌, ap, subst}
+-- The keys of rows, each once, and the rows of each.
+use Rattle.std.proofs.Common.{◌≡◌, ℕ, List, [], ◌∷◌, ◌++◌, map, Bool, true, false, cond, ◌||◌, refl, sym, ◌∙◌, ap, subst, append-nil}
+use Rattle.std.proofs.lemmas.List.{map-append}
 use Rattle.std.proofs.lemmas.List.Folds.{list_any-append}
 use Rattle.std.proofs.lemmas.Slice.Eq.{bytes_eq-Decides}
-use Rattle.std.specs.List.{AllByRecursion, list_any}
+use Rattle.std.specs.List.{AllByRecursion, filter, list_any}
 use Rattle.std.specs.Str.{bytes_eq}
+use Rattle.blob_store.proofs.Areas.{bytes_eq-same, bytes_eq-turned}
+use Rattle.catalog_doc.specs.declared.row.Row.{Row}
+use Rattle.fold_core.specs.Laws.{IsWhole}
 use Rattle.package_id.specs.declared.id.PackageId.{PackageId}
 use Rattle.package_id.proofs.Bytes.{IsSegment-key}
-use Rattle.pkg_meta.specs.Items.{id_of}
-use Rattle.pkg_meta.specs.declared.commit.Commit.{Commit}
-use Rattle.pkg_meta.specs.declared.item.Item.{Item}
-use Rattle.fold_core.specs.Items.{counted, has_item, is_of, touched}
-use Rattle.fold_core.specs.Laws.{IsWhole}
-use Rattle.job_round.specs.Keys.{has_key, keys_from, keys_of, with_key, with_keys}
+use Rattle.job_round.specs.Ids.{has_key, id_rows, is_row_of, key_of, keys_of, with_key, with_keys}
+use Rattle.job_round.specs.declared.ids.IdRows.{IdRows}
+use Rattle.job_round.proofs.KeyPlaces.{AreApart, none_apart, with_apart}
 
 or_true : (a b : Bool) → b ≡ true → (a || b) ≡ true
 or_true true b h = refl
@@ -29,13 +30,9 @@ kept_one key keys other has =
       | false ↦ list_any-append (bytes_eq key) keys (other ∷ []) ∙ first_true (has_key key keys) (has_key key (other ∷ [])) has
     ]
 
-kept_items : (key : List ℕ) (keys : List (List ℕ)) (items : List Item) → has_key key keys ≡ true → has_key key (with_keys keys items) ≡ true
-kept_items key keys [] has = has
-kept_items key keys (it ∷ items) has = kept_items key (with_key keys (id_of it).key) items (kept_one key keys (id_of it).key has)
-
-kept_all : (key : List ℕ) (keys : List (List ℕ)) (cs : List Commit) → has_key key keys ≡ true → has_key key (keys_from keys cs) ≡ true
+kept_all : (key : List ℕ) (keys more : List (List ℕ)) → has_key key keys ≡ true → has_key key (with_keys keys more) ≡ true
 kept_all key keys [] has = has
-kept_all key keys (c ∷ cs) has = kept_all key (with_keys keys c.items) cs (kept_items key keys c.items has)
+kept_all key keys (k ∷ more) has = kept_all key (with_key keys k) more (kept_one key keys k has)
 
 -- a key that is put in is one of them
 put_in : (key : List ℕ) (keys : List (List ℕ)) (other : List ℕ) → bytes_eq key other ≡ true → has_key key (with_key keys other) ≡ true
@@ -45,33 +42,60 @@ put_in key keys other same =
       | false ↦ λ has. list_any-append (bytes_eq key) keys (other ∷ []) ∙ or_true (has_key key keys) (has_key key (other ∷ [])) (first_true (bytes_eq key other) false same)
     ] refl
 
-found_in : (key : List ℕ) (keys : List (List ℕ)) (items : List Item) → list_any (is_of key) items ≡ true → has_key key (with_keys keys items) ≡ true
-found_in key keys [] has = cc
-found_in key keys (it ∷ items) has =
-    elim (is_of key it) as (λ (b : Bool). is_of key it ≡ b → (b || list_any (is_of key) items) ≡ true → has_key key (with_keys keys (it ∷ items)) ≡ true) [
-      | true ↦ λ here any. kept_items key (with_key keys (id_of it).key) items (put_in key keys (id_of it).key here)
-      | false ↦ λ here any. found_in key (with_key keys (id_of it).key) items any
-    ] refl has
-
-none_counted : (b : Bool) (n : ℕ) → b ≡ false → n ≡ 0 → counted b n ≡ 0
-none_counted b n here later = ap (counted b) later ∙ ap (λ (x : Bool). counted x 0) here
-
--- no commit has an item of an id whose key isn't one of them
-none_from : (key : List ℕ) (keys : List (List ℕ)) (cs : List Commit) → has_key key (keys_from keys cs) ≡ false → touched cs key ≡ 0
+-- no row is of an id whose key isn't one of them
+none_from : (key : List ℕ) (keys : List (List ℕ)) (rows : List Row) → has_key key (with_keys keys (map key_of rows)) ≡ false → filter (is_row_of key) rows ≡ []
 none_from key keys [] none = refl
-none_from key keys (c ∷ cs) none =
-    none_counted (has_item c key) (touched cs key)
-    (elim (has_item c key) as (λ (b : Bool). has_item c key ≡ b → b ≡ false) [
-      | true ↦ λ has. let found : has_key key (keys_from (with_keys keys c.items) cs) ≡ true = kept_all key (with_keys keys c.items) cs (found_in key keys c.items has) in cc
-      | false ↦ λ has. refl
-    ] refl)
-    (none_from key (with_keys keys c.items) cs none)
+none_from key keys (row ∷ rows) none =
+    elim (is_row_of key row) as (λ (b : Bool). is_row_of key row ≡ b → cond b (row ∷ filter (is_row_of key) rows) (filter (is_row_of key) rows) ≡ []) [
+      | true ↦ λ here.
+          let found : has_key key (with_keys (with_key keys (key_of row)) (map key_of rows)) ≡ true = kept_all key (with_key keys (key_of row)) (map key_of rows) (put_in key keys (key_of row) here) in
+          let no : ⊥ = cc in absurd no
+      | false ↦ λ here. none_from key (with_key keys (key_of row)) rows none
+    ] refl
 
-pub none_of : (key : List ℕ) (cs : List Commit) → has_key key (keys_of cs) ≡ false → touched cs key ≡ 0
-none_of key cs none = none_from key [] cs none
+keys_joined : (keys xs ys : List (List ℕ)) → with_keys keys (xs ++ ys) ≡ with_keys (with_keys keys xs) ys
+keys_joined keys [] ys = refl
+keys_joined keys (x ∷ xs) ys = keys_joined (with_key keys x) xs ys
+
+all_apart : (keys more : List (List ℕ)) → AreApart keys → AreApart (with_keys keys more)
+all_apart keys [] apart = apart
+all_apart keys (k ∷ more) apart = all_apart (with_key keys k) more (with_apart keys k apart)
+
+pub keys_apart : (rows : List Row) → AreApart (keys_of rows)
+keys_apart rows = all_apart [] (map key_of rows) none_apart
+
+pub firsts_apart : (keys : List (List ℕ)) → AreApart (with_keys [] keys)
+firsts_apart keys = all_apart [] keys none_apart
+
+-- an id without rows
+pub fresh_is : (rows : List Row) (key : List ℕ) → has_key key (keys_of rows) ≡ false → record { key = key; rows = [] } ≡ id_rows rows key
+fresh_is rows key free = ap (λ (l : List Row). record { key = key; rows = l }) (sym (none_from key [] rows free))
+
+filter_more : (p : Row → Bool) (rows : List Row) (row : Row) → filter p (rows ++ row ∷ []) ≡ filter p rows ++ cond (p row) (row ∷ []) []
+filter_more p [] row = refl
+filter_more p (x ∷ rows) row =
+    elim (p x) as (λ (b : Bool). cond b (x ∷ filter p (rows ++ row ∷ [])) (filter p (rows ++ row ∷ [])) ≡ cond b (x ∷ filter p rows) (filter p rows) ++ cond (p row) (row ∷ []) []) [
+      | true ↦ ap (λ (l : List Row). x ∷ l) (filter_more p rows row)
+      | false ↦ filter_more p rows row
+    ]
+
+-- with a row more
+module _ (rows : List Row) (row : Row) where
+  pub keys_next : keys_of (rows ++ row ∷ []) ≡ with_key (keys_of rows) (key_of row)
+  keys_next = ap (with_keys []) (map-append key_of rows (row ∷ [])) ∙ keys_joined [] (map key_of rows) (key_of row ∷ [])
+
+  pub rows_other : (key : List ℕ) → bytes_eq (key_of row) key ≡ false → id_rows rows key ≡ id_rows (rows ++ row ∷ []) key
+  rows_other key other =
+      let not : is_row_of key row ≡ false = bytes_eq-turned key (key_of row) ∙ other in
+      ap (λ (l : List Row). record { key = key; rows = l })
+      (sym (filter_more (is_row_of key) rows row ∙ ap (λ (b : Bool). filter (is_row_of key) rows ++ cond b (row ∷ []) []) not ∙ append-nil (filter (is_row_of key) rows)))
+
+  pub rows_own : record { key = key_of row; rows = (id_rows rows (key_of row)).rows ++ row ∷ [] } ≡ id_rows (rows ++ row ∷ []) (key_of row)
+  rows_own = ap (λ (l : List Row). record { key = key_of row; rows = l })
+      (sym (filter_more (is_row_of (key_of row)) rows row ∙ ap (λ (b : Bool). filter (is_row_of (key_of row)) rows ++ cond b (row ∷ []) []) (bytes_eq-same (key_of row))))
 
 -- an id's key has no `/`
-whole_key : (id : PackageId) → IsWhole id.key
+pub whole_key : (id : PackageId) → IsWhole id.key
 whole_key id = subst IsWhole (sym id.lowered) (IsSegment-key id.text id.spelled).whole
 
 abbrev AreWhole : List (List ℕ) → Type 0
@@ -85,13 +109,9 @@ with_whole : (keys : List (List ℕ)) (key : List ℕ) → AreWhole keys → IsW
 with_whole keys key all whole =
     elim (has_key key keys) as (λ (b : Bool). AreWhole (cond b keys (keys ++ key ∷ []))) [ true ↦ all | false ↦ behind keys key all whole ]
 
-items_whole : (keys : List (List ℕ)) (items : List Item) → AreWhole keys → AreWhole (with_keys keys items)
-items_whole keys [] all = all
-items_whole keys (it ∷ items) all = items_whole (with_key keys (id_of it).key) items (with_whole keys (id_of it).key all (whole_key (id_of it)))
+rows_whole : (keys : List (List ℕ)) (rows : List Row) → AreWhole keys → AreWhole (with_keys keys (map key_of rows))
+rows_whole keys [] all = all
+rows_whole keys (row ∷ rows) all = rows_whole (with_key keys (key_of row)) rows (with_whole keys (key_of row) all (whole_key row.id))
 
-commits_whole : (keys : List (List ℕ)) (cs : List Commit) → AreWhole keys → AreWhole (keys_from keys cs)
-commits_whole keys [] all = all
-commits_whole keys (c ∷ cs) all = commits_whole (with_keys keys c.items) cs (items_whole keys c.items all)
-
-pub keys_whole : (cs : List Commit) → AllByRecursion IsWhole (keys_of cs)
-keys_whole cs = commits_whole [] cs tt
+pub keys_whole : (rows : List Row) → AllByRecursion IsWhole (keys_of rows)
+keys_whole rows = rows_whole [] rows tt

@@ -1,5 +1,9 @@
-pub mod Errors
-pub mod Keys
-pub mod Puts
-pub mod Round
+pub mod Answers
+pub mod Cursors
+pub mod Ids
+pub mod Items
+pub mod Made
+pub mod Plans
+pub mod Rounds
 pub mod States
+pub mod Stops

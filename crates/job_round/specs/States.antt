@@ -1,65 +1,38 @@
--- What the documents of each id are made of after a list of commits.
-use Rattle.std.specs.Prelude.{◌≡◌, ℕ, suc, List, [], ◌∷◌, ◌++◌, flat_map, map, take, Option, Some, None, option_map, if◌then◌else◌}
-use Rattle.std.specs.BTreeMap.{get_by_text}
+-- The stored state of an id.
+use Rattle.std.specs.Prelude.{◌≡◌, ◌&&◌, ℕ, List, nat_le, Bool, true, false, Option, Some, None}
+use Rattle.std.specs.List.{list_all}
+use Rattle.std.specs.Option.{option_map_or}
 use Rattle.std.specs.Str.{bytes_eq}
-use Rattle.blob_store.specs.declared.call.Call.{Call}
-use Rattle.pkg_meta.specs.declared.commit.Commit.{Commit}
-use Rattle.fold_core.specs.Docs.{Makes}
-use Rattle.fold_core.specs.Entries.{Keeps, entries_of}
-use Rattle.fold_core.specs.Items.{items_of, touched, touched_stamp}
-use Rattle.fold_core.specs.declared.doc.Doc.{Doc}
-use Rattle.job_round.specs.Keys.{keys_of, with_key}
-use Rattle.job_round.specs.Puts.{Bodies, doc_puts, index_last}
-use Rattle.job_round.specs.declared.ids.IdState.{IdState}
-use Rattle.job_round.specs.declared.ids.Ids.{Ids}
+use Rattle.pkg_meta.specs.declared.state.StateDoc.{StateDoc}
+use Rattle.fold_core.specs.Docs.{owner}
+use Rattle.hive_state.specs.Reading.{IsStateValue}
+use Rattle.hive_state.specs.State.{state_text}
 
--- the state of an id without items
-abbrev pub fresh_state : List ℕ → IdState
-fresh_state key = record { key = key; number = 0; stamp = 0; entries = [] }
+-- whether the name is that of a document of the id with this key
+abbrev pub is_owned : List ℕ → List ℕ → Bool
+is_owned key name = option_map_or (bytes_eq key) (owner name) false
 
--- what the documents of an id are made of after these commits
-abbrev pub state_of : Keeps → List Commit → List ℕ → IdState
-state_of keeps cs key = record { key = key; number = touched cs key; stamp = touched_stamp cs key; entries = entries_of keeps (items_of cs key) }
+-- whether an id may have this state at the target: it doesn't stand beyond that, and its names are the id's
+abbrev pub fits : List ℕ → ℕ → StateDoc → Bool
+fits key target s = nat_le s.at target && list_all (is_owned key) s.names
 
--- the same of each id that has an item, in order of their first
-abbrev pub states_of : Keeps → List Commit → List IdState
-states_of keeps cs = map (state_of keeps cs) (keys_of cs)
+-- what is found is this state, and of no other that the code's types have; or nothing where there is none
+abbrev pub IsStored : (key : List ℕ) (target : ℕ) → Option (List ℕ) → Option StateDoc → Type 0
+IsStored key target found None = found ≡ None
+IsStored key target found (Some s) = (found ≡ Some (state_text s))
+    × ((other : StateDoc) → IsStateValue other → found ≡ Some (state_text other) → other ≡ s) × (fits key target s ≡ true)
 
-module _ (makes : Makes) (base : List ℕ) where
-  -- the documents that a hive makes of an id
-  abbrev pub docs_in : IdState → List Doc
-  docs_in s = makes base s.key s.number s.stamp s.entries
+-- what is found is no state that the id may have
+abbrev pub IsNoState : (key : List ℕ) (target : ℕ) → Option (List ℕ) → Type 0
+IsNoState key target None = ⊥
+IsNoState key target (Some bytes) = (s : StateDoc) → IsStateValue s → fits key target s ≡ true → bytes ≡ state_text s → ⊥
 
-  -- the puts of these documents
-  abbrev pub state_puts : Bodies → IdState → List Call
-  state_puts bytes s = doc_puts bytes (index_last (docs_in s))
+-- these bytes are of this state, or of none that the id may have
+abbrev pub IsReadAs : (key : List ℕ) (target : ℕ) → List ℕ → Option StateDoc → Type 0
+IsReadAs key target bytes None = IsNoState key target (Some bytes)
+IsReadAs key target bytes (Some s) = IsStored key target (Some bytes) (Some s)
 
-  -- those of these ids, one after the other
-  abbrev pub states_puts : Bodies → List IdState → List Call
-  states_puts bytes states = flat_map (state_puts bytes) states
-
--- where a key first stands among these
-abbrev pub key_place : List ℕ → List (List ℕ) → Option ℕ
-key_place key [] = None
-key_place key (k ∷ keys) = if bytes_eq key k then Some 0 else option_map suc (key_place key keys)
-
--- the ids with these keys, in this order, as they are after these commits
-pub record HasStates (keeps : Keeps) (cs : List Commit) (keys : List (List ℕ)) (ids : Ids) : Type 0 where
-  pub states : ids.states.items ≡ map (state_of keeps cs) keys
-  pub places : (key : List ℕ) → get_by_text ids.places key ≡ key_place key keys
-
--- all ids of these commits
-abbrev pub HasAllStates : Keeps → List Commit → Ids → Type 0
-HasAllStates keeps cs ids = HasStates keeps cs (keys_of cs) ids
-
--- the same with this key, which stands at this place
-abbrev pub HasKeyAt : Keeps → List Commit → List ℕ → Ids → ℕ → Type 0
-HasKeyAt keeps cs key ids place = HasStates keeps cs (with_key (keys_of cs) key) ids × (key_place key (with_key (keys_of cs) key) ≡ Some place)
-
--- a commit with the first n of its items
-abbrev pub first_items : ℕ → Commit → Commit
-first_items n c = record { number = c.number; stamp = c.stamp; items = take n c.items }
-
--- these commits, and a further one with the first n of its items
-abbrev pub with_first_items : List Commit → Commit → ℕ → List Commit
-with_first_items cs c n = cs ++ first_items n c ∷ []
+-- the last commit that a state has taken up, 0 where there is none
+abbrev pub at_in : Option StateDoc → ℕ
+at_in None = 0
+at_in (Some s) = s.at

@@ -1,88 +1,98 @@
-// The ids that have an item, and what the documents of each are made of.
+// The ids of rows, in order of their first, each with its rows.
 ghost use Rattle.std.specs.Prelude.{◌≡◌, ◌<◌, ◌+◌, ◌++◌, ◌∷◌, [], ℕ, List, Some, IfOk, OnOk, length, if◌then◌else◌};
 ghost use Rattle.std.specs.BTreeMap.{get_by_text};
 ghost use Rattle.std.specs.Str.{bytes_eq};
-ghost use Rattle.pkg_meta.specs.declared.commit.Commit.{Commit};
-ghost use Rattle.fold_core.specs.Entries.{Keeps};
+ghost use Rattle.catalog_doc.specs.declared.row.Row.{Row};
 
-use pkg_meta::{Entry, Many, NoMemory, Text, Ticks};
+use catalog_doc::Row;
+use pkg_meta::{Many, NoMemory, Text};
 use std::alloc::Global;
 use std::collections::BTreeMap;
 
-/// What the documents of an id are made of.
+/// An id with its rows, in order.
 #[derive(Drop)]
-pub(crate) struct IdState {
+pub(crate) struct IdRows {
     pub(crate) key: Text,
-    /// The number of the last commit that has an item of the id, 0 where none has.
-    pub(crate) number: u32,
-    /// That commit's stamp.
-    pub(crate) stamp: Ticks,
-    pub(crate) entries: Many<Entry>,
+    pub(crate) rows: Many<Row>,
 }
 
-impl IdState {
-    ghost use Rattle.job_round.specs.States.{fresh_state};
-
-    // Without any items.
+impl IdRows {
+    // Without any rows.
     fn new(alloc: Global, key: &Text) -> Result<Self, NoMemory>
-        ensures { IfOk result (λ state. state ≡ fresh_state key.now) }
+        ensures { IfOk result (λ id. id ≡ (record { key = key.now; rows = [] })) }
     {
         let key = key.copy(alloc)?;
-        Ok(IdState {
+        Ok(IdRows {
             key,
-            number: 0,
-            stamp: Ticks::of(0).unwrap(),
-            entries: Many::new(alloc),
+            rows: Many::new(alloc),
         })
     }
 }
 
-/// The ids, in order of their first items.
+/// The ids, in order of their first rows.
 #[derive(Drop)]
 pub(crate) struct Ids {
-    pub(crate) states: Vec<IdState>,
+    pub(crate) list: Vec<IdRows>,
     // Where the id with a key stands.
     pub(crate) places: BTreeMap<String, usize>,
-    ghost within: { (key : List ℕ) (place : ℕ) → get_by_text places key ≡ Some place → place < length states.items },
+    ghost within: { (key : List ℕ) (place : ℕ) → get_by_text places key ≡ Some place → place < length list.items },
 }
 
 impl Ids {
-    ghost use Rattle.job_round.specs.States.{fresh_state, HasAllStates, HasKeyAt};
+    ghost use Rattle.job_round.specs.Ids.{HasIds, HasIdAt, by_id, keys_of};
 
-    pub(crate) fn new(alloc: Global) -> Self
-        ensures { (keeps : Keeps) → HasAllStates keeps [] result }
+    fn new(alloc: Global) -> Self
+        ensures { HasIds [] [] result }
     {
         Ids {
-            states: Vec::new(alloc),
+            list: Vec::new(alloc),
             places: BTreeMap::new(alloc),
         }
     }
 
     // Puts the id with this key behind the others.
     fn add(&mut self, alloc: Global, key: &Text) -> Result<usize, NoMemory>
-        ensures place { IfOk result (λ place. place ≡ length self.old.states.items) }
-        ensures within { OnOk result (length self.new.states.items ≡ length self.old.states.items + 1) }
-        ensures states { OnOk result (self.new.states.items ≡ self.old.states.items ++ fresh_state key.now ∷ []) }
+        ensures place { IfOk result (λ place. place ≡ length self.old.list.items) }
+        ensures within { OnOk result (length self.new.list.items ≡ length self.old.list.items + 1) }
+        ensures list { OnOk result (self.new.list.items ≡ self.old.list.items ++ (record { key = key.now; rows = [] }) ∷ []) }
         ensures places { OnOk result ((asked : List ℕ) → get_by_text self.new.places asked
-            ≡ (if bytes_eq key.now asked then Some (length self.old.states.items) else get_by_text self.old.places asked)) }
+            ≡ (if bytes_eq key.now asked then Some (length self.old.list.items) else get_by_text self.old.places asked)) }
     {
-        let place = self.states.len();
-        let state = IdState::new(alloc, key)?;
+        let place = self.list.len();
+        let id = IdRows::new(alloc, key)?;
         let name = String::from_str(alloc, key.as_str())?;
-        self.states.push(state)?;
+        self.list.push(id)?;
         self.places.insert(name, place)?;
         Ok(place)
     }
 
-    /// Where the id with this key stands, behind the others where it wasn't one of them.
-    pub(crate) fn find_or_add(&mut self, alloc: Global, key: &Text) -> Result<usize, NoMemory>
-        ensures within { IfOk result (λ place. place < length self.new.states.items) }
-        ensures found { (keeps : Keeps) (cs : List Commit) → HasAllStates keeps cs self.old
-            → IfOk result (HasKeyAt keeps cs key.now self.new) }
+    // Where the id with this key stands, behind the others where it wasn't one of them.
+    fn find_or_add(&mut self, alloc: Global, key: &Text) -> Result<usize, NoMemory>
+        ensures within { IfOk result (λ place. place < length self.new.list.items) }
+        ensures found { (rows : List Row) → HasIds rows (keys_of rows) self.old → IfOk result (HasIdAt rows key.now self.new) }
     {
         match self.places.get(key.as_str()) {
             Some(&place) => Ok(place),
             None => self.add(alloc, key),
         }
+    }
+
+    // Puts a row to those of its id.
+    fn take(&mut self, alloc: Global, row: Row) -> Result<(), NoMemory>
+        ensures { (rows : List Row) → HasIds rows (keys_of rows) self.old → OnOk result (HasIds (rows ++ row ∷ []) (keys_of (rows ++ row ∷ [])) self.new) }
+    {
+        let at = self.find_or_add(alloc, &row.id.key)?;
+        self.list[at].rows.push(row)
+    }
+
+    /// The ids of these rows, in order of the first row of each, with the id's rows in order.
+    pub(crate) fn of(alloc: Global, rows: Many<Row>) -> Result<Vec<IdRows>, NoMemory>
+        ensures { IfOk result (λ ids. ids.items ≡ by_id rows) }
+    {
+        let mut ids = Ids::new(alloc);
+        for row in rows.into_vec() {
+            ids.take(alloc, row)?;
+        }
+        Ok(ids.list)
     }
 }

@@ -1,16 +1,15 @@
-//! The job that builds a hive: it reads the catalog's commits, and puts the documents of every id that
-//! they speak of, and then the cursor.
-//!
-//! An area with a cursor isn't built again yet. A job that stopped leaves some of its documents and no
-//! cursor, and is begun again.
+//! The job that takes a hive on from its cursor.
 #![tactic(auto)]
 
+mod calls;
 mod cursor;
-mod error;
 mod ids;
+mod items;
 mod job;
-mod pass;
-mod puts;
+mod passes;
+mod round;
+mod states;
+mod stop;
 
-pub use error::{RoundErr, RoundOut};
-pub use job::build_once;
+pub use id_pass::{RoundErr, RoundOut};
+pub use job::{cursor_of, run_round};

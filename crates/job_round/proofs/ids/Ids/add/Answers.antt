@@ -31,11 +31,11 @@ invariant_of-self-2 c = record {
   within = kept_within c.insert.result (string_bytes c.in_ok-name.name) c.args.self.now.places c.insert.new.self c.len-place.result
       (length c.push.new.self.items) c.insert.ensures.updates c.insert.ensures.err
       (λ key place is. omega (arith, c.args.self.now.within key place is, c.len-place.ensures))
-      (omega (arith, ap (λ (l : List _). length l) c.in_ok-push.ensures.items, length_push c.args.self.now.states.items c.in_ok-state.state));
+      (omega (arith, ap (λ (l : List _). length l) c.in_ok-push.ensures.items, length_push c.args.self.now.list.items c.in_ok-id.id));
 }
 
 pub returns-clause-places : goal.returns-clause-places
 returns-clause-places c = λ asked.
     btree_map_updates_text (string_bytes c.in_ok-name.name) c.args.self.now.places c.insert.new.self _ c.in_ok-insert.ensures.updates asked
     ∙ ap₂ (λ (t : List ℕ) (n : ℕ). cond (bytes_eq t asked) (Some n) (get_by_text c.args.self.now.places asked))
-    (c.in_ok-name.ensures.ok ∙ c.as_str.ensures) (c.len-place.ensures ∙ c.args.self.now.states.ok.0)
+    (c.in_ok-name.ensures.ok ∙ c.as_str.ensures) (c.len-place.ensures ∙ c.args.self.now.list.ok.0)

@@ -1,0 +1,12 @@
+use Rattle.std.proofs.Common.{subst, sym, ◌∙◌, ℕ}
+use Rattle.job_round.specs.Rounds.{IsEndStop}
+use Rattle.job_round.proofs.Ending.{damage_quiet, end_other, end_read}
+use Rattle.job_round.proofs.Staying.{quiet_ok, stays_read, stays_told}
+use Rattle.job_round.proofs.round.at_end.Goals as goal
+
+pub returns-in-Err-clause-stays : goal.returns-in-Err-clause-stays
+returns-in-Err-clause-stays g c = stays_told _ _ _ _ c.in-Err.error c.catalog_stop.result c.catalog_stop.ensures c.in-Err.ensures.stays
+
+pub returns-in-Err-clause-cause : goal.returns-in-Err-clause-cause
+returns-in-Err-clause-cause g c = subst (IsEndStop c.args.catalog.now (g.B.Blobs.seen c.args.catalog.now.area) c.args.cursor) (sym c.catalog_stop.ensures)
+    (end_read c.args.catalog.now (g.B.Blobs.seen c.args.catalog.now.area) c.args.cursor c.in-Err.error c.in-Err.ensures.damaged)
