@@ -3,4 +3,5 @@ pub mod Keys
 pub mod Printed
 pub mod Routes
 pub mod Table
+pub mod Tested
 pub mod Walk

@@ -1,7 +1,7 @@
 // Base addresses.
 ghost use Rattle.std.specs.Prelude.{◌≡◌, ◌↔◌, ◌⊎◌, codes, IfOk, IsTrue, None};
 ghost use Rattle.url.specs.Parts.{Parts};
-ghost use Rattle.feed_routes.specs.Bases.{IsBaseAddress, IsWebUrl};
+ghost use Rattle.feed_routes.specs.Bases.{IsBaseAddress, IsWebUrl, is_base_address};
 
 use nuget_version::NoMemory;
 use std::alloc::Global;
@@ -32,14 +32,21 @@ fn is_bare(alloc: Global, text: &str) -> Result<bool, NoMemory>
     }
 }
 
-/// Whether the text can be a feed's base address: a URL of `http` or `https` of at most 200 bytes, as the URL Standard
-/// writes it, that ends with `/` and has no query and no fragment. That a part of it is too long for `url` is told as want
-/// of memory.
-pub fn base_ok(alloc: Global, base: &str) -> Result<bool, NoMemory>
+fn is_address(alloc: Global, base: &str) -> Result<bool, NoMemory>
     ensures { IfOk result (λ is. IsTrue is ↔ IsBaseAddress base.now) }
 {
     if base.len() > MOST_BYTES || !base.ends_with("/") {
         return Ok(false);
     }
     is_bare(alloc, base)
+}
+
+/// Whether the text can be a feed's base address: a URL of `http` or `https` of at most 200 bytes, as the URL Standard
+/// writes it, that ends with `/` and has no query and no fragment. That a part of it is too long for `url` is told as want
+/// of memory.
+pub fn base_ok(alloc: Global, base: &str) -> Result<bool, NoMemory>
+    ensures address { IfOk result (λ is. IsTrue is ↔ IsBaseAddress base.now) }
+    ensures test { IfOk result (λ is. is ≡ is_base_address base.now) }
+{
+    is_address(alloc, base)
 }

@@ -1,10 +1,11 @@
 // What holds of the table. The functions do nothing.
-ghost use Rattle.std.specs.Prelude.{◌≡◌, ◌<◌, ◌^◌, ◌++◌, List, ℕ, codes, decimal};
+ghost use Rattle.std.specs.Prelude.{◌≡◌, ◌↔◌, ◌<◌, ◌^◌, ◌++◌, List, ℕ, IsTrue, codes, decimal};
 ghost use Rattle.fold_core.specs.Docs.{name_of};
 ghost use Rattle.http_wire.specs.declared.response.Verb.{Verb};
 ghost use Rattle.nuget_version.specs.Printed.{key_text};
 ghost use Rattle.nuget_version.specs.declared.version.Version.{Version};
 ghost use Rattle.package_id.specs.Ids.{IsShortId, id_key};
+ghost use Rattle.feed_routes.specs.Bases.{IsBaseAddress, is_base_address};
 ghost use Rattle.feed_routes.specs.Names.{IsContentTailOf, IsRegistrationTail};
 ghost use Rattle.feed_routes.specs.Segments.{IsIdKey, IsNumber, IsVersionKey};
 ghost use Rattle.feed_routes.specs.Table.{AsksFor, HasRoute, IsUnknown, NeedsVerb};
@@ -42,4 +43,9 @@ pub fn documents_have_routes()
         AsksFor (codes "/v3/registration-semver2/" ++ (key ++ (codes "/" ++ tail))) query (ask.Registration hive.SemVer2 (name_of key tail)) }
     ensures content { (text tail query : List ℕ) → IsShortId text → IsContentTailOf (id_key text) tail
         → let key = id_key text in AsksFor (codes "/v3/flat/" ++ (key ++ (codes "/" ++ tail))) query (ask.Flat (name_of key tail)) }
+{}
+
+/// The test of base addresses tells exactly these.
+pub fn base_addresses_are_tested()
+    ensures { (text : List ℕ) → IsTrue (is_base_address text) ↔ IsBaseAddress text }
 {}
