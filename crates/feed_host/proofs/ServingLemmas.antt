@@ -49,13 +49,15 @@ pub same_progress : {State : Type 0} (old new : State) (before after : Bytes) �
 same_progress old new before after s w i = record { state = s i; written = w i }
 
 -- one more request is answered
-pub answered_more : {State : Type 0} (acts : Acts State) (requests : List Request) (old m new : Progress State) (request : Request) (reply : Reply) → AreAnswered acts old requests m → IsExchange acts m request reply new → reply.stop ≡ false → AreAnswered acts old (requests ++ request ∷ []) new
+pub answered_more : {State : Type 0} (acts : Acts State) (requests : List Request) (old m new : Progress State) (request : Request) (reply : Reply)
+    → AreAnswered acts old requests m → IsExchange acts m request reply new → reply.stop ≡ false → AreAnswered acts old (requests ++ request ∷ []) new
 answered_more {State} acts [] old m new request reply h x stays =
     (reply, new, subst (λ (o : Progress State). IsExchange acts o request reply new) (sym h) x, stays, refl)
 answered_more acts (r ∷ requests) old m new request reply h x stays =
     (h.0, h.1, h.2, h.3, answered_more acts requests h.1 m new request reply h.4 x stays)
 
-pub leads_on_more : (input rest after : Bytes) (requests : List Request) (request : Request) → Leads input requests rest → GivesRequest rest after (Ok request) → request.last ≡ false → Leads input (requests ++ request ∷ []) after
+pub leads_on_more : (input rest after : Bytes) (requests : List Request) (request : Request) → Leads input requests rest
+    → GivesRequest rest after (Ok request) → request.last ≡ false → Leads input (requests ++ request ∷ []) after
 leads_on_more None rest after requests request h gives stays = tt
 leads_on_more (Some bytes) rest after requests request h gives stays =
     let here : GivesRequest (Some h.0) after (Ok request) = subst (λ (b : Bytes). GivesRequest b after (Ok request)) h.1 gives in
@@ -65,7 +67,8 @@ pub is_first : (input rest : Bytes) (requests : List Request) → Leads input re
 is_first None rest requests h = tt
 is_first (Some bytes) rest requests h = (h.0, h.2)
 
-pub is_next : (input rest after : Bytes) (requests : List Request) (request : Request) → Leads input requests rest → GivesRequest rest after (Ok request) → IsNextRequest input requests request
+pub is_next : (input rest after : Bytes) (requests : List Request) (request : Request) → Leads input requests rest
+    → GivesRequest rest after (Ok request) → IsNextRequest input requests request
 is_next None rest after requests request h gives = tt
 is_next (Some bytes) rest after requests request h gives =
     let here : GivesRequest (Some h.0) after (Ok request) = subst (λ (b : Bytes). GivesRequest b after (Ok request)) h.1 gives in
@@ -76,32 +79,38 @@ ends_talk : (bytes behind : List ℕ) (requests : List Request) (x : Ending) →
 ends_talk bytes behind requests x h ends =
     subst (λ (qs : List Request). Talk bytes qs x) (append-nil requests) (leads_talk requests bytes behind [] x h ends)
 
-pub all_closed : (input rest after : Bytes) (requests : List Request) → Leads input requests rest → GivesRequest rest after (Err wire.Closed) → AreAll input requests
+pub all_closed : (input rest after : Bytes) (requests : List Request) → Leads input requests rest → GivesRequest rest after (Err wire.Closed)
+    → AreAll input requests
 all_closed None rest after requests h gives = tt
 all_closed (Some bytes) rest after requests h gives =
     inl (ends_talk bytes h.0 requests AtEnd h.2 (subst (λ (b : Bytes). GivesRequest b after (Err wire.Closed)) h.1 gives))
 
-pub all_last : (input rest after : Bytes) (requests : List Request) (request : Request) → Leads input requests rest → GivesRequest rest after (Ok request) → request.last ≡ true → AreAll input (requests ++ request ∷ [])
+pub all_last : (input rest after : Bytes) (requests : List Request) (request : Request) → Leads input requests rest
+    → GivesRequest rest after (Ok request) → request.last ≡ true → AreAll input (requests ++ request ∷ [])
 all_last None rest after requests request h gives ends = tt
 all_last (Some bytes) rest after requests request h gives ends =
     let here : GivesRequest (Some h.0) after (Ok request) = subst (λ (b : Bytes). GivesRequest b after (Ok request)) h.1 gives in
     inr (leads_talk requests bytes h.0 (request ∷ []) AfterLast h.2 (here.0, here.2, inl (ends, refl, refl)))
 
-pub all_refused : (input rest after : Bytes) (requests : List Request) (status told : ℕ) → Leads input requests rest → GivesRequest rest after (Err (wire.Bad status)) → (IsRefusalStatus status → told ≡ status) → AreRefused input requests told
+pub all_refused : (input rest after : Bytes) (requests : List Request) (status told : ℕ) → Leads input requests rest
+    → GivesRequest rest after (Err (wire.Bad status)) → (IsRefusalStatus status → told ≡ status) → AreRefused input requests told
 all_refused None rest after requests status told h gives same = tt
 all_refused (Some bytes) rest after requests status told h gives same =
     let here : Says h.0 (wire.Bad status) = subst (λ (b : Bytes). GivesRequest b after (Err (wire.Bad status))) h.1 gives in
     subst (λ (s : ℕ). Talk bytes requests (AtRefusal s)) (sym (same (says_status h.0 status here))) (ends_talk bytes h.0 requests (AtRefusal status) h.2 here)
 
 -- behind an answer that went out
-pub answering_whole : {State : Type 0} (acts : Acts State) (request : Request) (reply : Reply) (old new : Progress State) (last stop : Bool) → IsExchange acts old request reply new → request.last ≡ last → reply.stop ≡ stop → Answering acts request old (end_behind last stop) new
+pub answering_whole : {State : Type 0} (acts : Acts State) (request : Request) (reply : Reply) (old new : Progress State) (last stop : Bool)
+    → IsExchange acts old request reply new → request.last ≡ last → reply.stop ≡ stop → Answering acts request old (end_behind last stop) new
 answering_whole acts request reply old new true true x l s = (reply, x, s)
 answering_whole acts request reply old new false true x l s = (reply, x, s)
 answering_whole acts request reply old new true false x l s = (reply, x, s, l)
 answering_whole acts request reply old new false false x l s = (reply, x, s, l)
 
 -- behind one that didn't, or in part
-pub answering_cut : {State : Type 0} (acts : Acts State) (request : Request) (reply : Reply) (old new : Progress State) (end : End) → IsReply acts old.state request reply new.state → Sending (reply_bytes request reply) old.written (Some end) new.written → Answering acts request old (Some end) new
+pub answering_cut : {State : Type 0} (acts : Acts State) (request : Request) (reply : Reply) (old new : Progress State) (end : End)
+    → IsReply acts old.state request reply new.state → Sending (reply_bytes request reply) old.written (Some end) new.written
+    → Answering acts request old (Some end) new
 answering_cut acts request reply old new WriteFault r h = (reply, r, h)
 answering_cut acts request reply old new Memory r h = inr (reply, r, h)
 answering_cut acts request reply old new ByClient r h = absurd h
@@ -110,10 +119,16 @@ answering_cut acts request reply old new Stopped r h = absurd h
 answering_cut acts request reply old new ReadFault r h = absurd h
 
 -- an answered request goes on, or ends the link
-module _ {State : Type 0} (acts : Acts State) (input rest after : Bytes) (requests : List Request) (start old new : Progress State) (answered : AreAnswered acts start requests old) (led : Leads input requests rest) where
-  by_request : (request : Request) (end : End) → GivesRequest rest after (Ok request) → Answering acts request old (Some end) new → Serves acts input start end new
-  by_request request ByClient gives h =
-      (requests ++ request ∷ [], new, answered_more acts requests start old new request h.0 answered h.1 h.2, (all_last input rest after requests request led gives h.3, refl))
+module _ {State : Type 0} (acts : Acts State) (input rest after : Bytes) (requests : List Request) (start old new : Progress State)
+    (answered : AreAnswered acts start requests old) (led : Leads input requests rest) where
+  by_request : (request : Request) (end : End) → GivesRequest rest after (Ok request) → Answering acts request old (Some end) new
+      → Serves acts input start end new
+  by_request request ByClient gives h = (
+    requests ++ request ∷ [],
+    new,
+    answered_more acts requests start old new request h.0 answered h.1 h.2,
+    (all_last input rest after requests request led gives h.3, refl),
+  )
   by_request request Stopped gives h = (requests, old, answered, (request, h.0, is_next input rest after requests request led gives, h.1, h.2))
   by_request request WriteFault gives h = (requests, old, answered, inl (request, h.0, is_next input rest after requests request led gives, h.1, h.2))
   by_request request Memory gives (inl same) = (requests, old, answered, inl (is_first input rest requests led, same))
@@ -121,7 +136,8 @@ module _ {State : Type 0} (acts : Acts State) (input rest after : Bytes) (reques
   by_request request (AfterError s) gives h = absurd h
   by_request request ReadFault gives h = absurd h
 
-  by_error : (e : WireErr) (end : End) → GivesRequest rest after (Err e) → new.state ≡ old.state → Closing e old.written end new.written → Serves acts input start end new
+  by_error : (e : WireErr) (end : End) → GivesRequest rest after (Err e) → new.state ≡ old.state → Closing e old.written end new.written
+      → Serves acts input start end new
   by_error wire.Closed ByClient gives s h =
       (requests, old, answered, (all_closed input rest after requests led gives, same_progress old.state new.state old.written new.written s h))
   by_error wire.ReadFault ReadFault gives s h =
@@ -161,11 +177,13 @@ module _ {State : Type 0} (acts : Acts State) (input rest after : Bytes) (reques
 abbrev pub IsUnderWay : {State : Type 0} → Acts State → Bytes → Progress State → Bytes → Progress State → Type 0
 IsUnderWay acts input start rest now = (requests : List Request) × Leads input requests rest × AreAnswered acts start requests now
 
-pub goes_on : {State : Type 0} (acts : Acts State) (input rest after : Bytes) (start old new : Progress State) → IsUnderWay acts input start rest old → Next acts rest old None after new → IsUnderWay acts input start after new
+pub goes_on : {State : Type 0} (acts : Acts State) (input rest after : Bytes) (start old new : Progress State)
+    → IsUnderWay acts input start rest old → Next acts rest old None after new → IsUnderWay acts input start after new
 goes_on acts input rest after start old new h n =
     (h.0 ++ n.0 ∷ [], leads_on_more input rest after h.0 n.0 h.1 n.1 n.2.3, answered_more acts h.0 start old new n.0 n.2.0 h.2 n.2.1 n.2.2)
 
-pub comes_to_end : {State : Type 0} (acts : Acts State) (input rest after : Bytes) (start old new : Progress State) (end : End) → IsUnderWay acts input start rest old → Next acts rest old (Some end) after new → Serves acts input start end new
+pub comes_to_end : {State : Type 0} (acts : Acts State) (input rest after : Bytes) (start old new : Progress State) (end : End)
+    → IsUnderWay acts input start rest old → Next acts rest old (Some end) after new → Serves acts input start end new
 comes_to_end acts input rest after start old new end h n = serves_end acts input rest after h.0 start old new h.2 h.1 end n
 
 pub starts : {State : Type 0} (acts : Acts State) (input rest : Bytes) (start : Progress State) → rest ≡ input → IsUnderWay acts input start rest start
@@ -177,7 +195,8 @@ pub refusal_is : (reply : Reply) (status : ℕ) → reply ≡ bare status None �
 refusal_is reply status same = ap (λ (r : Reply). wire_bytes r.status r.kind r.allow true r.body) same
 
 -- what becomes of a link whose refusal isn't told whole
-pub closing_cut : (end : End) (status told : ℕ) (old new : Bytes) → (IsRefusalStatus status → told ≡ status) → Sending (refusal_bytes told) old (Some end) new → Closing (wire.Bad status) old end new
+pub closing_cut : (end : End) (status told : ℕ) (old new : Bytes) → (IsRefusalStatus status → told ≡ status)
+    → Sending (refusal_bytes told) old (Some end) new → Closing (wire.Bad status) old end new
 closing_cut WriteFault status told old new same h = (told, same, h)
 closing_cut Memory status told old new same h = h
 closing_cut ByClient status told old new same h = absurd h

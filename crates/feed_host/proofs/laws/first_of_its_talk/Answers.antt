@@ -23,14 +23,17 @@ abbrev Others : List Request → List Request → List ℕ → Ending → Type 0
 Others requests all rest x = (others : List Request) × (all ≡ requests ++ others) × Talk rest others x
 
 -- behind the first request, which is one
-behind_first : (q t : Request) (requests all : List Request) (behind next rest : List ℕ) (x : Ending) → q.last ≡ false → Whole q behind ≡ Whole t next → ((t.last ≡ true) × (all ≡ []) × (x ≡ AfterLast)) ⊎ ((t.last ≡ false) × Talk next all x) → (Talk behind all x → Others requests all rest x) → Others (q ∷ requests) (t ∷ all) rest x
+behind_first : (q t : Request) (requests all : List Request) (behind next rest : List ℕ) (x : Ending) → q.last ≡ false
+    → Whole q behind ≡ Whole t next → ((t.last ≡ true) × (all ≡ []) × (x ≡ AfterLast)) ⊎ ((t.last ≡ false) × Talk next all x) → (Talk behind all x
+    → Others requests all rest x) → Others (q ∷ requests) (t ∷ all) rest x
 behind_first q t requests all behind next rest x stays same (inl h) more =
     both_ways t.last h.0 (sym (ap (λ (r : Request). r.last) (ap (request_in q) same)) ∙ stays)
 behind_first q t requests all behind next rest x stays same (inr h) more =
     let on = more (subst (λ (bytes : List ℕ). Talk bytes all x) (sym (ap behind_in same)) h.1) in
     (on.0, (λ i. sym (ap (request_in q) same) i ∷ on.1 i), on.2)
 
-first_of : (requests : List Request) (input rest : List ℕ) (all : List Request) (x : Ending) → LeadsTo input requests rest → Talk input all x → Others requests all rest x
+first_of : (requests : List Request) (input rest : List ℕ) (all : List Request) (x : Ending) → LeadsTo input requests rest → Talk input all x
+    → Others requests all rest x
 first_of [] input rest all x leads talk = (all, refl, subst (λ (bytes : List ℕ). Talk bytes all x) leads talk)
 first_of (q ∷ requests) input rest [] x leads talk = no_end input leads.0 q x leads.1 talk
 first_of (q ∷ requests) input rest (t ∷ all) x leads talk =
@@ -38,12 +41,14 @@ first_of (q ∷ requests) input rest (t ∷ all) x leads talk =
     (λ h. first_of requests leads.0 rest all x leads.3 h)
 
 -- a talk at whose front this request stands begins with it
-begins : (rest behind : List ℕ) (next : Request) (others : List Request) (x : Ending) → Ask rest (Whole next behind) → Talk rest others x → (more : List Request) × (others ≡ next ∷ more)
+begins : (rest behind : List ℕ) (next : Request) (others : List Request) (x : Ending) → Ask rest (Whole next behind) → Talk rest others x
+    → (more : List Request) × (others ≡ next ∷ more)
 begins rest behind next [] x ask talk = no_end rest behind next x ask talk
 begins rest behind next (t ∷ others) x ask talk =
     (others, (λ i. ap (request_in next) (one_at _ rest (Whole t talk.0) (Whole next behind) talk.1 ask) i ∷ others))
 
-next_of : (input : List ℕ) (requests all : List Request) (next : Request) (x : Ending) → IsNextRequest (Some input) requests next → Talk input all x → (others : List Request) × (all ≡ requests ++ next ∷ others)
+next_of : (input : List ℕ) (requests all : List Request) (next : Request) (x : Ending) → IsNextRequest (Some input) requests next
+    → Talk input all x → (others : List Request) × (all ≡ requests ++ next ∷ others)
 next_of input requests all next x h talk =
     let first = first_of requests input h.0 all x h.2 talk in
     let front = begins h.0 h.1 next first.0 x h.3 first.2 in

@@ -7,10 +7,12 @@ pub returns-in-Ok-write-clause-out : goal.returns-in-Ok-write-clause-out
 returns-in-Ok-write-clause-out g c =
     let r = c.args.reply.now in
     sent_whole c.as_slice.result.now (wire_bytes r.status r.kind r.allow c.args.last r.body) _ _
-    (c.as_slice.ensures ∙ c.in-Ok.ensures ∙ ap (λ (b : List ℕ). wire_bytes r.status r.kind r.allow c.args.last b) c.as_slice-body.ensures) c.in-Ok-write.ensures.writes
+    (c.as_slice.ensures ∙ c.in-Ok.ensures ∙ ap (λ
+    (b : List ℕ). wire_bytes r.status r.kind r.allow c.args.last b) c.as_slice-body.ensures) c.in-Ok-write.ensures.writes
 
 pub returns-clause-out : goal.returns-clause-out
 returns-clause-out g c =
     let r = c.args.reply.now in
     sent_part c.as_slice.result.now (wire_bytes r.status r.kind r.allow c.args.last r.body) _ _
-    (c.as_slice.ensures ∙ c.in-Ok.ensures ∙ ap (λ (b : List ℕ). wire_bytes r.status r.kind r.allow c.args.last b) c.as_slice-body.ensures) c.in-Err.ensures.writes
+    (c.as_slice.ensures ∙ c.in-Ok.ensures ∙ ap (λ
+    (b : List ℕ). wire_bytes r.status r.kind r.allow c.args.last b) c.as_slice-body.ensures) c.in-Err.ensures.writes

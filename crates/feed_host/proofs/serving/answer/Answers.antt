@@ -13,9 +13,11 @@ returns-in-None-clause-answers g c =
     let r = c.in-Ok.reply in
     let old = progress (g.S.Service.state c.args.service.now) (g.L.Link.written c.args.link.now) in
     let new = progress (g.S.Service.state c.reply_to.new.service) (g.L.Link.written c.send.new.link) in
-    let out = subst (λ (l : Bool). Sending (wire_bytes r.status r.kind r.allow l r.body) old.written None new.written) c.is_last-last.ensures c.in-None.ensures.out in
+    let out = subst (λ (l : Bool). Sending
+    (wire_bytes r.status r.kind r.allow l r.body) old.written None new.written) c.is_last-last.ensures c.in-None.ensures.out in
     let x : IsExchange g.S.Service.acts old q r new = record { replied = c.in-Ok.ensures.is; whole = out } in
-    subst (λ (e : Option End). Answering g.S.Service.acts q old e new) (sym c.end_behind.ensures) (answering_whole g.S.Service.acts q r old new q.last r.stop x refl refl)
+    subst (λ (e : Option End). Answering g.S.Service.acts q old e new) (sym c.end_behind.ensures)
+    (answering_whole g.S.Service.acts q r old new q.last r.stop x refl refl)
 
 pub returns-in-None-clause-counted : goal.returns-in-None-clause-counted
 returns-in-None-clause-counted g c =
@@ -28,5 +30,6 @@ returns-clause-answers g c =
     let r = c.in-Ok.reply in
     let old = progress (g.S.Service.state c.args.service.now) (g.L.Link.written c.args.link.now) in
     let new = progress (g.S.Service.state c.reply_to.new.service) (g.L.Link.written c.send.new.link) in
-    let out = subst (λ (l : Bool). Sending (wire_bytes r.status r.kind r.allow l r.body) old.written (Some c.in-Some.end) new.written) c.is_last-last.ensures c.in-Some.ensures.out in
+    let out = subst (λ (l : Bool). Sending (wire_bytes r.status r.kind r.allow l r.body) old.written
+    (Some c.in-Some.end) new.written) c.is_last-last.ensures c.in-Some.ensures.out in
     answering_cut g.S.Service.acts q r old new c.in-Some.end c.in-Ok.ensures.is out
