@@ -1,28 +1,16 @@
 -- The bodies of the documents of a catalog: each publish that a document is of stands in the catalog.
-use Rattle.std.proofs.Common.{◌≡◌, ◌+◌, ℕ, zero, suc, List, [], ◌∷◌, ◌++◌, length, Bool, true, false, cond, ◌&&◌, ◌||◌, Option, Some, None, IfSome, IsSome, refl, sym, ◌∙◌, ap, subst, append_assoc, append-nil, length-append, arith}
-use Rattle.std.proofs.lemmas.Bool.Decides.{nat_tests}
-use Rattle.std.proofs.lemmas.Grind.{flat_map-append}
-use Rattle.std.proofs.lemmas.List.Folds.{flat_map-map}
+use Rattle.std.proofs.Common.{◌≡◌, ◌+◌, ℕ, zero, suc, List, [], ◌∷◌, ◌++◌, length, Bool, true, false, Option, Some, None, IsSome, refl, ◌∙◌, ap, length-append, arith}
 use Rattle.std.proofs.lemmas.Option.{get_or_from_slice_get, slice_get_within}
-use Rattle.std.specs.List.{AllByRecursion, Contains, filter, list_any, slice_get}
+use Rattle.std.specs.List.{AllByRecursion, Contains, slice_get}
 use Rattle.std.specs.Option.{option_and_then, option_map}
-use Rattle.std.specs.Prelude.{flat_map, ◌==◌}
 use Rattle.pkg_meta.specs.Catalog.{Catalog}
 use Rattle.pkg_meta.specs.declared.commit.Staged.{Staged}
 use Rattle.pkg_meta.specs.declared.commit.Stored.{Stored}
-use Rattle.pkg_meta.specs.Lawful.{AreLawfulItems, IsLawfulItem, IsNext, IsOfDetails, MayFollow, Placed, all_placed, has_pair, last_like, last_of, or_earlier, placed_from, placed_of}
-use Rattle.pkg_meta.specs.declared.entry.Entry.{Entry}
-use Rattle.pkg_meta.specs.declared.item.Details.{Details}
+use Rattle.pkg_meta.specs.Lawful.{MayFollow, Placed}
 use Rattle.pkg_meta.specs.declared.item.Item.{Item}
 use Rattle.pkg_meta.specs.declared.item.Item.TheVariants as the
-use Rattle.fold_core.specs.Docs.{Makes, brought_at, brought_in, bytes_of, docs_of, part}
-use Rattle.fold_core.specs.Entries.{Keeps, entries_of, entry_at}
-use Rattle.fold_core.specs.Items.{commits_of, is_of, items_in, items_of, touched, touched_stamp}
-use Rattle.fold_core.specs.Laws.{AreOfEntries, IsOfEntry, has_origin}
-use Rattle.fold_core.specs.declared.doc.Body.{Body}
-use Rattle.fold_core.specs.declared.doc.Body.TheVariants.{Made, Staged as FromPublish}
-use Rattle.fold_core.specs.declared.doc.Doc.{Doc}
-use Rattle.fold_core.proofs.Rising.{all_joined, entries_all}
+use Rattle.fold_core.specs.Docs.{brought_at, brought_in, bytes_of, part}
+use Rattle.fold_core.specs.declared.doc.Body.TheVariants.{Staged as FromPublish}
 
 -- the catalog has a publish at this number and place
 abbrev IsThere : Catalog → ℕ → ℕ → Type 0

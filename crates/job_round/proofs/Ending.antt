@@ -1,6 +1,6 @@
 -- The cursor's put behind passes, and the answer where no row stands behind the cursor.
-use Rattle.std.proofs.Common.{◌≡◌, ◌⊎◌, ℕ, List, [], ◌∷◌, ◌++◌, length, Some, Ok, Err, Result, IfErr, inl, inr, refl, sym, ◌∙◌, ap, subst, append-nil}
-use Rattle.std.specs.Prelude.{IsErrOf, ⊤}
+use Rattle.std.proofs.Common.{◌≡◌, ℕ, List, [], ◌∷◌, length, Some, Ok, Err, Result, inl, inr, sym, subst, append-nil}
+use Rattle.std.specs.Prelude.{IsErrOf}
 use Rattle.blob_store.specs.Area.{Area}
 use Rattle.blob_store.specs.Events.{Act}
 use Rattle.blob_store.specs.Plans.{Makes}

@@ -1,13 +1,12 @@
 -- Plans that a job made, up to where it stopped.
-use Rattle.std.proofs.Common.{◌≡◌, ◌⊎◌, ℕ, List, [], ◌∷◌, ◌++◌, Ok, Err, IfErr, Result, inl, inr, refl, sym, ◌∙◌, ap, subst}
-use Rattle.std.specs.Prelude.{IsErrOf, ⊤}
+use Rattle.std.proofs.Common.{◌≡◌, ℕ, List, [], ◌∷◌, ◌++◌, Err, Result, inl, inr, refl, sym, subst}
 use Rattle.feed_base.specs.Counts.{CountsFault}
 use Rattle.blob_store.specs.Events.{Act, Get}
-use Rattle.blob_store.specs.Plans.{Makes, MakesSome, Runs, StopsAt}
+use Rattle.blob_store.specs.Plans.{Makes, MakesSome, StopsAt}
 use Rattle.blob_store.specs.Seen.{IsSure, Seen}
 use Rattle.blob_store.specs.declared.error.BlobErr.{BlobErr}
 use Rattle.blob_store.specs.declared.error.BlobErr.TheVariants as blob
-use Rattle.blob_store.proofs.Following.{makes_then, stops_behind, stops_early}
+use Rattle.blob_store.proofs.Following.{stops_behind, stops_early}
 use Rattle.blob_store.proofs.InMemory.{some_all, some_behind, some_early}
 use Rattle.blob_store.proofs.OneCall.{none}
 use Rattle.blob_store.proofs.Told.{made_quietly, stop_counts}

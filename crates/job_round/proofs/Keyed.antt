@@ -3,7 +3,7 @@ use Rattle.std.proofs.Common.{◌≡◌, ℕ, List, [], ◌∷◌, ◌++◌, map
 use Rattle.std.proofs.lemmas.List.{map-append}
 use Rattle.std.proofs.lemmas.List.Folds.{list_any-append}
 use Rattle.std.proofs.lemmas.Slice.Eq.{bytes_eq-Decides}
-use Rattle.std.specs.List.{AllByRecursion, filter, list_any}
+use Rattle.std.specs.List.{AllByRecursion, filter}
 use Rattle.std.specs.Str.{bytes_eq}
 use Rattle.blob_store.proofs.Areas.{bytes_eq-same, bytes_eq-turned}
 use Rattle.catalog_doc.specs.declared.row.Row.{Row}
@@ -11,7 +11,6 @@ use Rattle.fold_core.specs.Laws.{IsWhole}
 use Rattle.package_id.specs.declared.id.PackageId.{PackageId}
 use Rattle.package_id.proofs.Bytes.{IsSegment-key}
 use Rattle.job_round.specs.Ids.{has_key, id_rows, is_row_of, key_of, keys_of, with_key, with_keys}
-use Rattle.job_round.specs.declared.ids.IdRows.{IdRows}
 use Rattle.job_round.proofs.KeyPlaces.{AreApart, none_apart, with_apart}
 
 or_true : (a b : Bool) → b ≡ true → (a || b) ≡ true

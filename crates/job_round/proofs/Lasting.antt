@@ -1,5 +1,5 @@
 -- The last call of a round.
-use Rattle.std.proofs.Common.{◌≡◌, ◌∷◌, [], List, Ok, Err, Result, inr, subst}
+use Rattle.std.proofs.Common.{◌≡◌, Ok, Err, Result, inr, subst}
 use Rattle.blob_store.specs.Events.{Act}
 use Rattle.blob_store.specs.Seen.{Seen}
 use Rattle.job_round.specs.Rounds.{RunsLast}

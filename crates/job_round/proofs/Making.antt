@@ -1,6 +1,6 @@
 -- Calls of a pass as they are made, one behind the other.
 use Rattle.std.proofs.Common.{◌≡◌, ℕ, List, [], ◌∷◌, ◌++◌, map, drop, Bool, None, Some, Ok, Err, Result, refl, sym, ◌∙◌, ap, subst, append_assoc, append-nil}
-use Rattle.std.specs.Prelude.{IsErrOf, ⊤}
+use Rattle.std.specs.Prelude.{IsErrOf}
 use Rattle.std.proofs.lemmas.List.{map-append}
 use Rattle.std.specs.List.{Contains, slice_get}
 use Rattle.std.specs.Option.{is_some}
@@ -8,7 +8,6 @@ use Rattle.blob_store.specs.Events.{Act, Change}
 use Rattle.blob_store.specs.Plans.{Makes}
 use Rattle.blob_store.specs.Seen.{IsSure, Seen}
 use Rattle.blob_store.specs.declared.call.Call.{Call as StoreCall}
-use Rattle.blob_store.specs.declared.call.Call.TheVariants as store
 use Rattle.blob_store.proofs.Following.{makes_then}
 use Rattle.blob_store.proofs.OneCall.{none}
 use Rattle.pkg_meta.specs.Catalog.{Catalog}
@@ -17,8 +16,7 @@ use Rattle.pkg_meta.specs.declared.commit.Stored.{Stored}
 use Rattle.catalog_core.specs.Framing.{StaysOpen}
 use Rattle.catalog_core.specs.Opened.{IsOpenFor, Opened, staged_bytes}
 use Rattle.catalog_items.specs.Reads.{IsRead}
-use Rattle.catalog_opening.specs.declared.error.ReadErr.{ReadErr}
-use Rattle.fold_core.specs.Docs.{bytes_of, part}
+use Rattle.fold_core.specs.Docs.{part}
 use Rattle.fold_core.specs.declared.doc.Body.TheVariants.{Made, Staged as FromPublish}
 use Rattle.id_pass.specs.declared.call.Call.{Call}
 use Rattle.id_pass.specs.declared.call.Call.TheVariants.{Put, Remove}

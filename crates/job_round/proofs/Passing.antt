@@ -1,13 +1,12 @@
 -- A pass, and passes one behind the other.
-use Rattle.std.proofs.Common.{◌≡◌, ◌<◌, ◌+◌, ℕ, List, [], ◌∷◌, ◌++◌, length, map, take, drop, get_or, Bool, true, false, Option, Some, None, option_map, IfSome, Ok, Err, Result, inl, inr, ◌⊎◌, refl, sym, ◌∙◌, ap, subst, append_assoc, append-nil}
+use Rattle.std.proofs.Common.{◌≡◌, ◌<◌, ◌+◌, ℕ, List, [], ◌∷◌, ◌++◌, length, map, take, drop, get_or, Option, Some, None, IfSome, Ok, Err, Result, inl, inr, refl, sym, ◌∙◌, ap, subst, append_assoc, append-nil}
 use Rattle.std.proofs.lemmas.Grind.{flat_map-append}
 use Rattle.std.proofs.lemmas.List.{map-append, take_more, take-append-drop}
 use Rattle.std.specs.FinMap.{get}
 use Rattle.blob_store.specs.Area.{Area}
-use Rattle.blob_store.specs.Events.{Act, Change, Get, after_events}
-use Rattle.blob_store.specs.Plans.{Makes, all_done}
+use Rattle.blob_store.specs.Events.{Act, Change, Get}
+use Rattle.blob_store.specs.Plans.{Makes}
 use Rattle.blob_store.specs.Seen.{Seen}
-use Rattle.blob_store.specs.Steps.{after_plan}
 use Rattle.blob_store.specs.declared.call.Call.{Call as StoreCall}
 use Rattle.blob_store.proofs.Following.{makes_then}
 use Rattle.blob_store.proofs.Stepping.{after_plan-append}

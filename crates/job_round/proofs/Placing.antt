@@ -1,10 +1,10 @@
 -- The items of rows.
-use Rattle.std.proofs.Common.{◌≡◌, ◌<◌, ◌≤◌, ◌+◌, ◌⊎◌, ℕ, zero, suc, List, [], ◌∷◌, ◌++◌, length, take, get_or, map, Bool, true, false, cond, Some, Ok, Err, Result, IfErr, inl, ⊎_elim, refl, sym, ◌∙◌, ap, ap₂, subst, append-nil, arith}
+use Rattle.std.proofs.Common.{◌≡◌, ◌<◌, ◌≤◌, ◌+◌, ◌⊎◌, ℕ, zero, suc, List, [], ◌∷◌, ◌++◌, length, take, get_or, map, Bool, true, false, cond, Some, inl, ⊎_elim, refl, sym, ◌∙◌, ap, ap₂, subst, append-nil, arith}
 use Rattle.std.proofs.lemmas.Bool.{lt-ltb, le-ltb}
 use Rattle.std.proofs.lemmas.List.{length-map, map-append, take_all}
 use Rattle.std.proofs.lemmas.List.Elements.{Contains-append_cases}
 use Rattle.std.specs.List.{Contains, filter, slice_get}
-use Rattle.std.specs.Prelude.{IsErrOf, IfSome, ⊤}
+use Rattle.std.specs.Prelude.{IsErrOf, IfSome}
 use Rattle.blob_store.specs.Area.{Area}
 use Rattle.blob_store.specs.Seen.{Seen}
 use Rattle.pkg_meta.specs.Catalog.{Catalog}

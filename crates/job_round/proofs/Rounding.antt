@@ -1,13 +1,12 @@
 -- A round: the cursor, the rows behind it, and what is taken up.
-use Rattle.std.proofs.Common.{◌≡◌, ◌<◌, ◌≤◌, ◌⊎◌, ◌-◌, ℕ, List, [], ◌∷◌, ◌++◌, length, map, Bool, true, false, Option, Some, None, IfSome, IfOk, IfErr, Ok, Err, Result, inl, inr, refl, sym, ◌∙◌, ap, subst, arith}
+use Rattle.std.proofs.Common.{◌≡◌, ◌<◌, ◌≤◌, ◌-◌, ℕ, List, [], ◌∷◌, ◌++◌, length, map, true, Option, Some, None, IfSome, IfOk, IfErr, Ok, Err, Result, inl, inr, sym, ◌∙◌, subst, arith}
 use Rattle.std.specs.FinMap.{get}
 use Rattle.std.specs.List.{slice_get}
 use Rattle.std.specs.Prelude.{IsErrOf, ⊤}
 use Rattle.blob_store.specs.Area.{Area}
-use Rattle.blob_store.specs.Events.{Act, Get}
-use Rattle.blob_store.specs.Plans.{Makes, StopsAt}
+use Rattle.blob_store.specs.Events.{Get}
+use Rattle.blob_store.specs.Plans.{Makes}
 use Rattle.blob_store.specs.Seen.{Seen}
-use Rattle.blob_store.specs.declared.error.BlobErr.{BlobErr}
 use Rattle.blob_store.proofs.Following.{makes_then, stops_behind}
 use Rattle.pkg_meta.specs.Catalog.{Catalog}
 use Rattle.catalog_doc.specs.CatDocs.{all_rows}
@@ -27,10 +26,9 @@ use Rattle.id_pass.specs.declared.error.RoundOut.TheVariants.{Done, Idle}
 use Rattle.job_round.specs.Answers.{IsLostInCatalog, IsLostInHive}
 use Rattle.job_round.specs.Cursors.{IsCursor, IsNoCursor}
 use Rattle.job_round.specs.Ids.{by_id, key_of_id}
-use Rattle.job_round.specs.Items.{IsLost}
 use Rattle.job_round.specs.Plans.{AreTold, AreWholePasses, IsOfPasses, IsPartPass, Pass, held_after, keys_in, pass_plan, passes_plan}
-use Rattle.job_round.specs.Rounds.{IsEndStop, IsStopOf, IsTask, RoundHalts, RunsRound, RunsTaking, cursor_put, round_plan}
-use Rattle.job_round.specs.Stops.{HaltsAt, IfDamaged, IsElse, IsOfHive, catalog_stop_of, hive_stop_of}
+use Rattle.job_round.specs.Rounds.{IsEndStop, IsTask, RunsRound, RunsTaking, cursor_put}
+use Rattle.job_round.specs.Stops.{HaltsAt, IfDamaged, IsElse, IsOfHive, catalog_stop_of}
 use Rattle.job_round.specs.declared.stop.Stop.{Stop}
 use Rattle.job_round.specs.declared.stop.Stop.TheVariants.{CatalogFault, HiveFault, CatalogDamaged, HiveDamaged, Memory}
 use Rattle.job_round.proofs.Halting.{halts_behind, halts_then}

@@ -1,7 +1,7 @@
 -- What a catalog's call leaves, told as a stop.
-use Rattle.std.proofs.Common.{◌≡◌, ◌⊎◌, ℕ, List, Bool, true, false, Some, Ok, Err, IfErr, Result, inl, inr, ⊎_elim, refl, sym, ◌∙◌, ap, subst}
+use Rattle.std.proofs.Common.{◌≡◌, ◌⊎◌, ℕ, List, Bool, true, Some, Ok, Err, IfErr, Result, ⊎_elim, refl, sym, ◌∙◌, ap, subst}
 use Rattle.std.specs.FinMap.{get}
-use Rattle.std.specs.Prelude.{IsErrOf, ⊤}
+use Rattle.std.specs.Prelude.{IsErrOf}
 use Rattle.blob_store.specs.Area.{Area}
 use Rattle.blob_store.specs.Seen.{IsSure, Seen}
 use Rattle.catalog_doc.specs.Names.{staged_name}
@@ -13,7 +13,7 @@ use Rattle.catalog_core.specs.Opened.{IsUnsettled, Opened}
 use Rattle.catalog_core.proofs.Frames.{stays_as, stays_iff}
 use Rattle.catalog_items.specs.Reads.{IsAbsent}
 use Rattle.job_round.specs.Items.{IsStagedAbsent}
-use Rattle.job_round.specs.Stops.{IfDamaged, IsElse, IsOfCatalog, IsOfHive, catalog_stop_of}
+use Rattle.job_round.specs.Stops.{IfDamaged, IsElse, IsOfHive, catalog_stop_of}
 use Rattle.job_round.specs.declared.stop.Stop.{Stop}
 use Rattle.job_round.specs.declared.stop.Stop.TheVariants.{CatalogFault, HiveFault, CatalogDamaged, HiveDamaged, Memory}
 use Rattle.job_round.proofs.Stays.{stays_then}

@@ -1,10 +1,10 @@
 -- A pass of an id whose rows are told, and the passes of ids in a loop.
-use Rattle.std.proofs.Common.{◌≡◌, ◌<◌, ◌⊎◌, ℕ, zero, suc, List, [], ◌∷◌, length, map, take, get_or, Bool, true, false, cond, Option, Some, None, IfSome, IfErr, Ok, Err, Result, inl, inr, ⊎_elim, refl, sym, ◌∙◌, ap, ap₂, subst, arith}
+use Rattle.std.proofs.Common.{◌≡◌, ◌<◌, ◌⊎◌, ℕ, zero, suc, List, [], ◌∷◌, length, map, take, get_or, Bool, true, false, cond, Option, IfSome, IfErr, Err, Result, inl, inr, ⊎_elim, sym, ◌∙◌, ap, ap₂, subst, arith}
 use Rattle.std.specs.FinMap.{get}
 use Rattle.std.specs.List.{AllByRecursion, Contains, filter}
-use Rattle.std.specs.Prelude.{IsErrOf, ⊤}
+use Rattle.std.specs.Prelude.{IsErrOf}
 use Rattle.blob_store.specs.Area.{Area}
-use Rattle.blob_store.specs.Events.{Act, Get}
+use Rattle.blob_store.specs.Events.{Get}
 use Rattle.blob_store.specs.Plans.{Makes}
 use Rattle.blob_store.specs.Seen.{Seen}
 use Rattle.pkg_meta.specs.Catalog.{Catalog}
@@ -26,7 +26,7 @@ use Rattle.id_pass.specs.declared.placed.Placed.{Placed as Given}
 use Rattle.job_round.specs.Ids.{key_of_id}
 use Rattle.job_round.specs.Items.{AreOf, is_behind, items_after, items_behind, placed_after}
 use Rattle.job_round.specs.Made.{RunsCalls}
-use Rattle.job_round.specs.Plans.{AreTold, IsPlanned, IsStateLost, IsTold, Pass, PassesMade, RunsPass}
+use Rattle.job_round.specs.Plans.{AreTold, IsStateLost, IsTold, PassesMade, RunsPass}
 use Rattle.job_round.specs.States.{IsNoState, IsStored, at_in}
 use Rattle.job_round.specs.Stops.{HaltsAt, IfDamaged, IsOfHive}
 use Rattle.job_round.specs.declared.ids.IdRows.{IdRows}

@@ -1,7 +1,7 @@
 -- What a round tells of its stop.
-use Rattle.std.proofs.Common.{◌≡◌, ◌<◌, ◌⊎◌, ℕ, List, [], ◌∷◌, ◌++◌, length, Option, Some, None, IfSome, IfOk, IfErr, Ok, Err, Result, inl, inr, ⊎_elim, refl, sym, ◌∙◌, ap, subst, option_map}
+use Rattle.std.proofs.Common.{◌≡◌, ◌<◌, ℕ, List, [], ◌∷◌, ◌++◌, length, Option, Some, None, IfSome, IfOk, Ok, Err, Result, inl, inr, refl, sym, ◌∙◌, ap, subst, option_map}
 use Rattle.std.specs.FinMap.{get}
-use Rattle.std.specs.Prelude.{IsErrOf, ⊤}
+use Rattle.std.specs.Prelude.{IsErrOf}
 use Rattle.feed_base.specs.Counts.{CountsFault}
 use Rattle.blob_store.specs.Area.{Area}
 use Rattle.blob_store.specs.Events.{Act, Get}
@@ -13,7 +13,7 @@ use Rattle.blob_store.proofs.Told.{made_quietly, stop_counts}
 use Rattle.pkg_meta.specs.Catalog.{Catalog}
 use Rattle.catalog_items.proofs.Getting.{counts_as, counts_none}
 use Rattle.catalog_core.specs.Framing.{StaysOpen}
-use Rattle.catalog_core.specs.Opened.{IsOpenFor, Opened}
+use Rattle.catalog_core.specs.Opened.{Opened}
 use Rattle.catalog_core.proofs.Frames.{stays_iff}
 use Rattle.cursor_doc.specs.Cursor.{cursor_name}
 use Rattle.fold_core.specs.Folds.{Fold}

@@ -16,7 +16,6 @@ use Rattle.id_pass.specs.declared.error.RoundOut.TheVariants.{Done, Idle}
 use Rattle.job_round.specs.Cursors.{IsDamagedCursor, IsNoCursor}
 use Rattle.job_round.specs.Items.{IsLost}
 use Rattle.job_round.specs.States.{IsNoState}
-use Rattle.job_round.specs.Stops.{IfDamaged}
 use Rattle.job_round.specs.declared.stop.Stop.{Stop}
 use Rattle.job_round.specs.declared.stop.Stop.TheVariants.{CatalogFault, HiveFault, CatalogDamaged, HiveDamaged, Memory}
 

@@ -1,5 +1,5 @@
 -- The calls of a pass and of a round on the hive's store.
-use Rattle.std.specs.Prelude.{◌≡◌, ◌⊎◌, ◌<◌, ℕ, List, [], ◌∷◌, ◌++◌, flat_map, length, map, true, false, Option, IfSome, option_map, Result, ⊤}
+use Rattle.std.specs.Prelude.{◌≡◌, ◌⊎◌, ℕ, List, [], ◌∷◌, ◌++◌, flat_map, map, true, false, Option, IfSome, option_map, Result, ⊤}
 use Rattle.std.specs.declared.result.Result.TheVariants.{Ok, Err}
 use Rattle.std.specs.FinMap.{get}
 use Rattle.blob_store.specs.Area.{Area}
@@ -8,19 +8,16 @@ use Rattle.blob_store.specs.Plans.{Makes}
 use Rattle.blob_store.specs.Seen.{Seen}
 use Rattle.blob_store.specs.Steps.{after_plan}
 use Rattle.blob_store.specs.declared.call.Call.{Call as StoreCall}
-use Rattle.blob_store.specs.declared.call.Call.TheVariants as store
 use Rattle.pkg_meta.specs.Catalog.{Catalog}
-use Rattle.pkg_meta.specs.Lawful.{Placed, newest}
+use Rattle.pkg_meta.specs.Lawful.{Placed}
 use Rattle.pkg_meta.specs.declared.state.StateDoc.{StateDoc}
 use Rattle.catalog_core.specs.Opened.{Opened}
 use Rattle.catalog_rows.specs.Last.{row_of}
-use Rattle.cursor_doc.specs.Cursor.{cursor_name, cursor_text}
 use Rattle.fold_core.specs.Folds.{Fold}
 use Rattle.hive_state.specs.State.{state_name}
 use Rattle.id_pass.specs.Passes.{ArePassCalls, is_idle}
 use Rattle.id_pass.specs.declared.call.Call.{Call}
 use Rattle.std.specs.List.{AllByRecursion}
-use Rattle.job_round.specs.Ids.{key_of_id}
 use Rattle.job_round.specs.Items.{IsLost, items_after, items_behind}
 use Rattle.job_round.specs.Made.{AreMade, AreSomeMade}
 use Rattle.job_round.specs.States.{IsNoState, IsStored, at_in}

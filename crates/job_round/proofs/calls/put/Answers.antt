@@ -1,9 +1,7 @@
-use Rattle.std.proofs.Common.{◌∷◌, [], subst, sym, Ok, Err}
-use Rattle.blob_store.specs.Events.{Change}
+use Rattle.std.proofs.Common.{subst, sym, Ok, Err}
 use Rattle.blob_store.specs.declared.call.Call.TheVariants.{Put}
 use Rattle.blob_store.proofs.OneCall.{changed}
 use Rattle.job_round.specs.Stops.{IsOfHive}
-use Rattle.job_round.specs.declared.stop.Stop.{Stop}
 use Rattle.job_round.proofs.Halting.{of_hive}
 use Rattle.job_round.proofs.calls.put.Goals as goal
 

@@ -1,5 +1,4 @@
-use Rattle.std.proofs.Common.{◌∷◌, [], Ok, Err, subst, sym, refl, ap, ◌∙◌}
-use Rattle.blob_store.specs.Events.{Act, Change}
+use Rattle.std.proofs.Common.{[], subst, sym, refl, ◌∙◌}
 use Rattle.blob_store.specs.declared.call.Call.TheVariants as store
 use Rattle.catalog_core.specs.Opened.{IsOpenFor}
 use Rattle.fold_core.specs.declared.doc.Body.TheVariants.{Staged as FromPublish}

@@ -1,6 +1,5 @@
-use Rattle.std.proofs.Common.{◌≡◌, ◌∷◌, [], List, Some, None, ap, sym, subst, ◌∙◌, option_map, Err, length, drop, arith}
+use Rattle.std.proofs.Common.{List, ap, sym, subst, ◌∙◌, option_map, Err}
 use Rattle.std.proofs.lemmas.Result.{err_from_is_err_and}
-use Rattle.std.specs.List.{slice_get}
 use Rattle.id_pass.specs.declared.call.Call.{Call}
 use Rattle.job_round.proofs.Making.{RunSoFar, run_ended, run_more, run_none, run_stopped, stays_stopped}
 use Rattle.job_round.proofs.calls.run_plan.Goals as goal

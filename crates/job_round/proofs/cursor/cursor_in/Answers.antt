@@ -1,4 +1,4 @@
-use Rattle.std.proofs.Common.{◌≡◌, ◌∷◌, [], ℕ, List, Some, None, Option, ap, subst, sym, ◌∙◌, Err}
+use Rattle.std.proofs.Common.{◌≡◌, ◌∷◌, [], ℕ, List, Some, Option, ap, subst, sym, ◌∙◌, Err}
 use Rattle.std.proofs.lemmas.Result.{err_from_is_err_and}
 use Rattle.blob_store.specs.Events.{Get}
 use Rattle.cursor_doc.specs.Cursor.{cursor_name}

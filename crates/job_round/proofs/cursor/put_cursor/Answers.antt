@@ -1,8 +1,8 @@
-use Rattle.std.proofs.Common.{◌∷◌, [], ℕ, List, Ok, Err, inl, inr, ap, subst, sym, ◌∙◌, Result}
+use Rattle.std.proofs.Common.{[], ℕ, List, Err, inl, ap, subst, sym, ◌∙◌, Result}
 use Rattle.std.proofs.lemmas.Result.{err_from_is_err_and}
-use Rattle.blob_store.specs.Events.{Act, Change}
+use Rattle.blob_store.specs.Events.{Change}
 use Rattle.blob_store.specs.declared.call.Call.TheVariants.{Put}
-use Rattle.cursor_doc.specs.Cursor.{cursor_name, cursor_text}
+use Rattle.cursor_doc.specs.Cursor.{cursor_name}
 use Rattle.job_round.specs.Rounds.{RunsLast, cursor_put}
 use Rattle.job_round.specs.declared.stop.Stop.{Stop}
 use Rattle.job_round.specs.declared.stop.Stop.TheVariants.{Memory}

@@ -1,9 +1,8 @@
-use Rattle.std.proofs.Common.{Ok, Err, ap, subst, sym, ◌∙◌, ℕ, Some, ◌≡◌}
+use Rattle.std.proofs.Common.{Err, ap, subst, sym, ◌∙◌, ℕ, Some, ◌≡◌}
 use Rattle.std.proofs.lemmas.Result.{err_from_is_err_and}
 use Rattle.std.specs.List.{slice_get}
 use Rattle.catalog_doc.specs.declared.row.Row.{Row}
 use Rattle.job_round.specs.Stops.{IsElse}
-use Rattle.job_round.specs.declared.stop.Stop.TheVariants.{CatalogFault, Memory}
 use Rattle.job_round.proofs.Placing.{in_catalog, leaf_lost}
 use Rattle.job_round.proofs.Staying.{else_of_read, memory_quiet, quiet_ok, stays_still}
 use Rattle.job_round.proofs.items.item_of.Goals as goal

@@ -1,8 +1,7 @@
-use Rattle.std.proofs.Common.{◌≡◌, ap, ◌∙◌, Err, List, refl, sym, subst, arith}
+use Rattle.std.proofs.Common.{ap, ◌∙◌, Err, arith}
 use Rattle.std.proofs.lemmas.Result.{err_from_is_err_and}
 use Rattle.std.specs.List.{filter}
 use Rattle.id_pass.specs.Placing.{all_as_placed}
-use Rattle.pkg_meta.specs.Lawful.{Placed}
 use Rattle.job_round.specs.Items.{is_behind}
 use Rattle.job_round.proofs.Placing.{all_taken, row_added, row_skipped, there}
 use Rattle.job_round.proofs.Staying.{memory_quiet, quiet_ok, stays_next, stays_on, stays_still, stays_well, went_well}

@@ -1,4 +1,4 @@
-use Rattle.std.proofs.Common.{◌∷◌, [], ap, sym, ◌∙◌, Err}
+use Rattle.std.proofs.Common.{◌∷◌, [], ap, ◌∙◌, Err}
 use Rattle.std.proofs.lemmas.Result.{err_from_is_err_and}
 use Rattle.blob_store.specs.Events.{Get}
 use Rattle.hive_state.specs.State.{state_name}

@@ -1,4 +1,4 @@
-use Rattle.std.proofs.Common.{ap, sym, ◌∙◌, Err, Ok, List, map, take, subst, length}
+use Rattle.std.proofs.Common.{ap, ◌∙◌, Err, Ok, List, map, subst}
 use Rattle.std.proofs.lemmas.List.{take_all}
 use Rattle.std.proofs.lemmas.Result.{err_from_is_err_and}
 use Rattle.catalog_core.specs.Opened.{IsOpenFor}

@@ -1,7 +1,7 @@
-use Rattle.std.proofs.Common.{subst, sym, ◌∙◌, ℕ}
+use Rattle.std.proofs.Common.{subst, sym}
 use Rattle.job_round.specs.Rounds.{IsEndStop}
-use Rattle.job_round.proofs.Ending.{damage_quiet, end_other, end_read}
-use Rattle.job_round.proofs.Staying.{quiet_ok, stays_read, stays_told}
+use Rattle.job_round.proofs.Ending.{end_read}
+use Rattle.job_round.proofs.Staying.{stays_told}
 use Rattle.job_round.proofs.round.at_end.Goals as goal
 
 pub returns-in-Err-clause-stays : goal.returns-in-Err-clause-stays

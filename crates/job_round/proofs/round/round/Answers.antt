@@ -1,4 +1,4 @@
-use Rattle.std.proofs.Common.{[], ◌∷◌, ap, sym, ◌∙◌, Err, Ok, List, subst, inl}
+use Rattle.std.proofs.Common.{[], ◌∷◌, ap, sym, ◌∙◌, Err, subst, inl}
 use Rattle.std.proofs.lemmas.Result.{err_from_is_err_and}
 use Rattle.blob_store.specs.Events.{Get}
 use Rattle.cursor_doc.specs.Cursor.{cursor_name}
@@ -6,7 +6,7 @@ use Rattle.job_round.specs.Stops.{HaltsAt, catalog_stop_of}
 use Rattle.job_round.specs.declared.stop.Stop.{Stop}
 use Rattle.job_round.proofs.Halting.{halts_behind}
 use Rattle.job_round.proofs.Rounding.{end_lost, round_ended, round_lost, round_taken, rows_lost}
-use Rattle.job_round.proofs.Staying.{else_of_read, hive_quiet, quiet_ok, stays_next, stays_read, stays_still, stays_told, went_well}
+use Rattle.job_round.proofs.Staying.{else_of_read, hive_quiet, quiet_ok, stays_next, stays_read, stays_still, went_well}
 use Rattle.job_round.proofs.round.round.Goals as goal
 
 pub returns-in_err-cursor-clause-stays : goal.returns-in_err-cursor-clause-stays

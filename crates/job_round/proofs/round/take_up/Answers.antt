@@ -1,4 +1,4 @@
-use Rattle.std.proofs.Common.{[], ap, sym, ◌∙◌, Err, Ok, List, subst, map}
+use Rattle.std.proofs.Common.{[], ap, ◌∙◌, Err, List, subst, map}
 use Rattle.std.proofs.lemmas.Result.{err_from_is_err_and}
 use Rattle.catalog_core.specs.Opened.{IsOpenFor}
 use Rattle.fold_core.specs.Folds.{fold_of}
@@ -9,7 +9,7 @@ use Rattle.job_round.specs.declared.ids.IdRows.{IdRows}
 use Rattle.job_round.specs.declared.stop.Stop.TheVariants.{Memory}
 use Rattle.job_round.proofs.Ending.{taking_cut, taking_done, taking_stopped, taking_unbegun}
 use Rattle.job_round.proofs.Halting.{halts_before}
-use Rattle.job_round.proofs.Staying.{memory_quiet, quiet_ok, stays_on, stays_still, stays_well}
+use Rattle.job_round.proofs.Staying.{memory_quiet, stays_still}
 use Rattle.job_round.proofs.round.take_up.Goals as goal
 
 pub returns-in_err-ids-clause-stays : goal.returns-in_err-ids-clause-stays

@@ -1,7 +1,6 @@
-use Rattle.std.proofs.Common.{◌∷◌, [], ap, ◌∙◌, Err, List, ℕ, subst, sym}
+use Rattle.std.proofs.Common.{◌∷◌, [], ap, ◌∙◌, Err}
 use Rattle.std.proofs.lemmas.Result.{err_from_is_err_and}
-use Rattle.blob_store.specs.Events.{Act, Get}
-use Rattle.blob_store.specs.Plans.{Makes}
+use Rattle.blob_store.specs.Events.{Get}
 use Rattle.hive_state.specs.State.{state_name}
 use Rattle.job_round.specs.declared.stop.Stop.TheVariants.{HiveDamaged, Memory}
 use Rattle.job_round.proofs.Halting.{got_as, halts_before, halts_behind, halts_told}

@@ -1,4 +1,4 @@
-use Rattle.std.proofs.Common.{◌≡◌, ◌++◌, ◌∷◌, [], List, Result, Ok, Err, OnOk, IfOk, get_or, set, refl, ap}
+use Rattle.std.proofs.Common.{◌≡◌, ◌++◌, ◌∷◌, [], List, Result, Ok, Err, OnOk, get_or, set, refl}
 use Rattle.catalog_doc.specs.declared.row.Row.{Row}
 use Rattle.job_round.specs.Ids.{HasIdAt, HasIds, keys_of}
 use Rattle.job_round.specs.declared.ids.IdRows.{IdRows}
