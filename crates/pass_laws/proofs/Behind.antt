@@ -4,7 +4,7 @@ use Rattle.std.proofs.lemmas.Bool.{lt-ltb, le-ltb, ltb-true, ltb-false}
 use Rattle.std.proofs.lemmas.List.{drop-map, length-append}
 use Rattle.std.proofs.lemmas.List.Folds.{flat_map-map}
 use Rattle.std.specs.List.{filter}
-use Rattle.std.specs.Prelude.{flat_map, nat_lt}
+use Rattle.std.specs.Prelude.{nat_lt}
 use Rattle.pkg_meta.specs.Catalog.{Catalog}
 use Rattle.pkg_meta.specs.Lawful.{IsLawful, MayFollow, Placed, all_placed, placed_from, placed_of}
 use Rattle.pkg_meta.specs.declared.commit.Commit.{Commit}

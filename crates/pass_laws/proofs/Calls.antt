@@ -2,7 +2,7 @@
 use Rattle.std.proofs.Common.{◌≡◌, ◌≤◌, ℕ, zero, suc, take, length, arith, List, [], ◌∷◌, ◌++◌, map, Bool, true, false, cond, Option, Some, None, IsSome, refl, sym, ap, ◌∙◌, append_assoc}
 use Rattle.std.proofs.lemmas.List.{map-append}
 use Rattle.std.specs.FinMap.{get}
-use Rattle.std.specs.List.{AllByRecursion, Contains, filter}
+use Rattle.std.specs.List.{Contains, filter}
 use Rattle.blob_store.specs.Area.{Area}
 use Rattle.blob_store.specs.Runs.{IsAfterSome, after_calls}
 use Rattle.blob_store.specs.declared.call.Call.{Call as StoreCall}
@@ -11,17 +11,16 @@ use Rattle.pkg_meta.specs.Catalog.{Catalog}
 use Rattle.pkg_meta.specs.declared.state.StateDoc.{StateDoc}
 use Rattle.fold_core.specs.Docs.{bytes_of, index_name}
 use Rattle.fold_core.specs.declared.doc.Body.{Body}
-use Rattle.fold_core.specs.declared.doc.Body.TheVariants.{Made}
-use Rattle.hive_laws.specs.Plans.{NamedBytes, PassPlan, pass_steps, puts_of_docs, puts_of_index, removals_of_index}
+use Rattle.hive_laws.specs.Plans.{PassPlan, puts_of_docs, puts_of_index, removals_of_index}
 use Rattle.hive_laws.specs.Rounds.{call_of, plan_calls}
-use Rattle.hive_laws.specs.Steps.{Step, PutDoc, PutState, RemoveDoc}
+use Rattle.hive_laws.specs.Steps.{Step, PutState, RemoveDoc}
 use Rattle.hive_laws.proofs.Listed.{first, later}
 use Rattle.hive_state.specs.State.{state_name, state_text}
 use Rattle.id_pass.specs.Named.{NamedBodies}
 use Rattle.id_pass.specs.Passes.{doc_put, doc_puts, index_put, index_removal, drops_index, is_left_over, is_missing, removals, state_put, written}
 use Rattle.id_pass.specs.declared.call.Call.{Call}
 use Rattle.id_pass.specs.declared.call.Call.TheVariants.{Put, Remove}
-use Rattle.pass_laws.specs.Making.{AreMadeBy, AreSomeMadeBy, HasBytes, HaveBytes, IsMadeBy}
+use Rattle.pass_laws.specs.Making.{AreMadeBy, AreSomeMadeBy, HasCallBytes, HaveCallBytes, IsMadeBy}
 use Rattle.pass_laws.proofs.Plan.{bytes_or, index_bytes, or_same, plan_of, with_bytes}
 
 -- a call with its bytes
@@ -29,18 +28,18 @@ abbrev made_call : Catalog → Call → StoreCall
 made_call cs (Put name body) = store.Put name (bytes_or (bytes_of cs body))
 made_call cs (Remove name) = store.Remove name
 
-one_made : (cs : Catalog) (call : Call) (made : StoreCall) → HasBytes cs call → IsMadeBy cs call made → made ≡ made_call cs call
+one_made : (cs : Catalog) (call : Call) (made : StoreCall) → HasCallBytes cs call → IsMadeBy cs call made → made ≡ made_call cs call
 one_made cs (Put name body) made has is = is (bytes_or (bytes_of cs body)) (or_same (bytes_of cs body) has)
 one_made cs (Remove name) made has is = is
 
 -- calls that have bytes are made in one way
-pub all_made : (cs : Catalog) (calls : List Call) (made : List StoreCall) → HaveBytes cs calls → AreMadeBy cs calls made → made ≡ map (made_call cs) calls
+pub all_made : (cs : Catalog) (calls : List Call) (made : List StoreCall) → HaveCallBytes cs calls → AreMadeBy cs calls made → made ≡ map (made_call cs) calls
 all_made cs [] [] has are = refl
 all_made cs [] (c ∷ made) has are = absurd are
 all_made cs (call ∷ calls) [] has are = absurd are
 all_made cs (call ∷ calls) (c ∷ made) has are = λ i. one_made cs call c has.0 are.0 i ∷ all_made cs calls made has.1 are.1 i
 
-some_are : (cs : Catalog) (calls : List Call) (made : List StoreCall) → HaveBytes cs calls → AreSomeMadeBy cs calls made
+some_are : (cs : Catalog) (calls : List Call) (made : List StoreCall) → HaveCallBytes cs calls → AreSomeMadeBy cs calls made
     → (length made ≤ length (map (made_call cs) calls)) × (made ≡ take (length made) (map (made_call cs) calls))
 some_are cs calls [] has are = (omega arith, refl)
 some_are cs [] (c ∷ made) has are = absurd are
@@ -56,35 +55,35 @@ taken_twice [] (suc i) (suc j) le = refl
 taken_twice {X = X} (x ∷ xs) (suc i) (suc j) le = ap (λ (l : List X). x ∷ l) (taken_twice xs i j (omega (arith, le)))
 
 -- what is left by some of the calls that some were made of
-pub some_made : (cs : Catalog) (calls : List Call) (made : List StoreCall) (m left : Area) → HaveBytes cs calls → AreSomeMadeBy cs calls made → IsAfterSome made m left
+pub some_made : (cs : Catalog) (calls : List Call) (made : List StoreCall) (m left : Area) → HaveCallBytes cs calls → AreSomeMadeBy cs calls made → IsAfterSome made m left
     → IsAfterSome (map (made_call cs) calls) m left
 some_made cs calls made m left has are (n, few, is) =
     let some = some_are cs calls made has are in
     let within : length made ≤ length (map (made_call cs) calls) = some.0 in
     (n, omega (arith, few, within), is ∙ ap (λ (l : List StoreCall). after_calls l m) (ap (take n) some.1 ∙ taken_twice (map (made_call cs) calls) n (length made) few))
 
-have_joined : (cs : Catalog) (xs ys : List Call) → HaveBytes cs xs → HaveBytes cs ys → HaveBytes cs (xs ++ ys)
+have_joined : (cs : Catalog) (xs ys : List Call) → HaveCallBytes cs xs → HaveCallBytes cs ys → HaveCallBytes cs (xs ++ ys)
 have_joined cs [] ys p q = q
 have_joined cs (x ∷ xs) ys p q = (p.0, have_joined cs xs ys p.1 q)
 
-puts_have : (cs : Catalog) (es : List (List ℕ × Body)) → ((e : List ℕ × Body) → Contains es e → IsSome (bytes_of cs e.1)) → HaveBytes cs (map doc_put es)
+puts_have : (cs : Catalog) (es : List (List ℕ × Body)) → ((e : List ℕ × Body) → Contains es e → IsSome (bytes_of cs e.1)) → HaveCallBytes cs (map doc_put es)
 puts_have cs [] all = tt
 puts_have cs (e ∷ es) all = (all e (first e es), puts_have cs es (λ x is. all x (later e x es is)))
 
-removals_have : (cs : Catalog) (names : List (List ℕ)) → HaveBytes cs (map {A = List ℕ} {B = Call} (λ (n : List ℕ). Remove n) names)
+removals_have : (cs : Catalog) (names : List (List ℕ)) → HaveCallBytes cs (map {A = List ℕ} {B = Call} (λ (n : List ℕ). Remove n) names)
 removals_have cs [] = tt
 removals_have cs (name ∷ names) = (tt, removals_have cs names)
 
-drop_has : (cs : Catalog) (index : List ℕ) (b : Bool) → HaveBytes cs (cond b (Remove index ∷ []) [])
+drop_has : (cs : Catalog) (index : List ℕ) (b : Bool) → HaveCallBytes cs (cond b (Remove index ∷ []) [])
 drop_has cs index true = (tt, tt)
 drop_has cs index false = tt
 
-if_put : (cs : Catalog) (index : List ℕ) (body : Body) (b : Bool) → IsSome (bytes_of cs body) → HaveBytes cs (map doc_put (cond b ((index, body) ∷ []) []))
+if_put : (cs : Catalog) (index : List ℕ) (body : Body) (b : Bool) → IsSome (bytes_of cs body) → HaveCallBytes cs (map doc_put (cond b ((index, body) ∷ []) []))
 if_put cs index body true has = (has, tt)
 if_put cs index body false has = tt
 
 index_has : (cs : Catalog) (index : List ℕ) (given : NamedBodies) (docs : NamedBodies) (o : Option Body) → ((body : Body) → o ≡ Some body → IsSome (bytes_of cs body))
-    → HaveBytes cs (index_put index given docs o)
+    → HaveCallBytes cs (index_put index given docs o)
 index_has cs index given docs None all = tt
 index_has cs index given docs (Some body) all = if_put cs index body (is_missing given (index, body)) (all body refl)
 
@@ -96,7 +95,7 @@ module _ (cs : Catalog) (key : List ℕ) (given docs : NamedBodies) (names : Lis
   calls = state_put key dirty ∷ (doc_puts index given docs ++ (removals index docs names ++ state_put key clean ∷ []))
 
   pub calls_have : ((e : List ℕ × Body) → Contains (written index given docs) e → IsSome (bytes_of cs e.1)) → ((body : Body) → get docs index ≡ Some body → IsSome (bytes_of cs body))
-      → HaveBytes cs calls
+      → HaveCallBytes cs calls
   calls_have docs_have own = (
     refl,
     have_joined cs (doc_puts index given docs) (removals index docs names ++ state_put key clean ∷ [])

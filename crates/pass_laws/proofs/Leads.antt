@@ -1,6 +1,6 @@
 -- The calls of a pass lead a sound id by a plan.
-use Rattle.std.proofs.Common.{◌≡◌, ◌≤◌, ◌⊎◌, inl, inr, ◌<◌, ℕ, zero, suc, List, ◌++◌, ◌∷◌, [], length, map, take, Bool, true, false, not, All, IsUtf8, Option, None, Some, IfSome, IsSome, refl, sym, ap, ◌∙◌, subst, arith}
-use Rattle.std.proofs.lemmas.List.{take_all, take-map}
+use Rattle.std.proofs.Common.{◌≡◌, ◌≤◌, ◌⊎◌, inl, inr, ◌<◌, ℕ, zero, suc, List, ◌∷◌, [], length, Bool, true, false, not, IsUtf8, Option, None, Some, IfSome, IsSome, refl, sym, ap, ◌∙◌, subst, arith}
+use Rattle.std.proofs.lemmas.List.{take_all}
 use Rattle.std.specs.FinMap.{get, keys}
 use Rattle.std.specs.List.{Contains}
 use Rattle.blob_store.specs.Area.{Area}
@@ -24,9 +24,9 @@ use Rattle.hive_laws.specs.FoldLaws.{FoldLaws}
 use Rattle.hive_laws.specs.Plans.{IsPassPlan, PassPlan}
 use Rattle.hive_laws.specs.Rounds.{IsAreaPlan, IsLed, IsPartlyPassed, IsPassed, IsSkipped, IsUpToDate, plan_calls}
 use Rattle.hive_state.specs.Reading.{IsStateValue}
-use Rattle.id_pass.specs.Passes.{ArePassCalls, HasStates, docs_by, docs_given, is_idle, number_after, pass_calls, written}
+use Rattle.id_pass.specs.Passes.{HasStates, docs_by, docs_given, is_idle, number_after, pass_calls, written}
 use Rattle.id_pass.specs.declared.call.Call.{Call}
-use Rattle.pass_laws.specs.Making.{AreMadeBy, AreSomeMadeBy, HaveBytes}
+use Rattle.pass_laws.specs.Making.{AreMadeBy, AreSomeMadeBy, HaveCallBytes}
 use Rattle.pass_laws.specs.Starting.{AreCallsOf, StartsPassOf, at_in, items_behind}
 use Rattle.pass_laws.proofs.Behind.{AreBehind, are_behind}
 use Rattle.pass_laws.proofs.Calls.{all_made, calls_have, calls_made, some_made}
@@ -94,7 +94,7 @@ module _ (keeps : Keeps) (makes : Makes) (base : List ℕ) (staged : (base key :
     written_has e is =
         found_has e.0 e.1 (is_written keeps makes base key (staged base key) cs lawful laws c (get m) old starts.sound.state items dirty clean states dirty_scratch clean_scratch e is).1
 
-    have : HaveBytes cs (pass_calls makes base key old dirty clean)
+    have : HaveCallBytes cs (pass_calls makes base key old dirty clean)
     have = calls_have cs key (docs_given makes base key old) (docs_by makes base key clean) (names_in old) dirty clean written_has (found_has (index_name key))
 
     are_plan_calls : (made : List StoreCall) → AreMadeBy cs (pass_calls makes base key old dirty clean) made → made ≡ plan_calls key plan
@@ -157,11 +157,11 @@ module _ (keeps : Keeps) (makes : Makes) (base : List ℕ) (staged : (base key :
   skipped idle = record { stored = old; is_stored = starts.stored; up = up_to_date old refl idle; same = refl }
 
   -- by whether there is something to do
-  pub calls_have_bytes : (calls : List Call) → AreCallsOf f cs c key old calls → HaveBytes cs calls
+  pub calls_have_bytes : (calls : List Call) → AreCallsOf f cs c key old calls → HaveCallBytes cs calls
   calls_have_bytes calls are =
-      elim (is_idle old items) as (λ (b : Bool). is_idle old items ≡ b → HaveBytes cs calls) [
-        | true ↦ λ idle. subst (HaveBytes cs) (sym (are.idle idle)) tt
-        | false ↦ λ busy. let own = are.planned busy in subst (HaveBytes cs) (sym own.3) (have own.0 own.1 own.2)
+      elim (is_idle old items) as (λ (b : Bool). is_idle old items ≡ b → HaveCallBytes cs calls) [
+        | true ↦ λ idle. subst (HaveCallBytes cs) (sym (are.idle idle)) tt
+        | false ↦ λ busy. let own = are.planned busy in subst (HaveCallBytes cs) (sym own.3) (have own.0 own.1 own.2)
       ] refl
 
   no_made : (made : List StoreCall) → AreSomeMadeBy cs [] made → made ≡ []

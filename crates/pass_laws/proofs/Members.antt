@@ -1,5 +1,5 @@
 -- What lists that are filtered or mapped contain.
-use Rattle.std.proofs.Common.{◌≡◌, ◌⊎◌, inl, inr, List, [], ◌∷◌, map, Bool, true, false, cond, refl, sym, ◌∙◌, ap, subst}
+use Rattle.std.proofs.Common.{◌≡◌, ◌⊎◌, inl, inr, List, [], ◌∷◌, map, Bool, true, false, cond, refl, ◌∙◌, ap, subst}
 use Rattle.std.specs.List.{Contains, filter}
 use Rattle.hive_laws.proofs.Listed.{first, later, nothing_in, split}
 
@@ -20,7 +20,6 @@ module _ {X : Type 0} (p : X → Bool) where
   pub kept : (xs : List X) (x : X) → Contains xs x → p x ≡ true → Contains (filter p xs) x
   kept [] x is passes = absurd (nothing_in x is)
   kept (y ∷ xs) x is passes = kept_by x y xs passes (λ within. kept xs x within passes) (split y x xs is)
-
 
   was_here : (x y : X) (xs : List X) → p y ≡ true → (Contains (filter p xs) x → Contains xs x × (p x ≡ true)) → (x ≡ y) ⊎ Contains (filter p xs) x → Contains (y ∷ xs) x × (p x ≡ true)
   was_here x y xs is rest (inl same) = (subst (λ (z : X). Contains (z ∷ xs) x) same (first x xs), ap p same ∙ is)

@@ -1,5 +1,5 @@
 -- The plan that the calls of a pass are.
-use Rattle.std.proofs.Common.{◌≡◌, ◌≢◌, ◌⊎◌, inl, inr, ℕ, List, [], ◌∷◌, ◌++◌, length, map, Bool, true, false, cond, not, ◌&&◌, Option, Some, None, IsSome, refl, sym, ap, ◌∙◌, subst, arith}
+use Rattle.std.proofs.Common.{◌≡◌, ◌≢◌, ◌⊎◌, inl, inr, ℕ, List, [], length, map, Bool, true, false, cond, not, ◌&&◌, Option, Some, None, IsSome, refl, sym, ap, ◌∙◌, subst}
 use Rattle.std.proofs.lemmas.Cmp.{nat_list_eq_equiv}
 use Rattle.std.proofs.lemmas.Map.Views.{Contains-from_any, list_any-from_Contains}
 use Rattle.std.specs.FinMap.{contains_key, entries, get, keys, remove}
@@ -10,7 +10,7 @@ use Rattle.pkg_meta.specs.Catalog.{Catalog}
 use Rattle.pkg_meta.specs.Lawful.{IsLawful, Placed}
 use Rattle.pkg_meta.specs.declared.entry.Entry.{Entry}
 use Rattle.pkg_meta.specs.declared.state.StateDoc.{StateDoc}
-use Rattle.fold_core.specs.Docs.{Makes, bytes_of, index_name, owner}
+use Rattle.fold_core.specs.Docs.{Makes, bytes_of, index_name}
 use Rattle.fold_core.specs.Entries.{Keeps}
 use Rattle.fold_core.specs.Events.{IsDirtyPut, names_in}
 use Rattle.fold_core.specs.Folds.{Fold, Look, NamesAt, fold_of, made_at}
@@ -222,8 +222,7 @@ module _ (keeps : Keeps) (makes : Makes) (base key : List ℕ) (staged : (number
   is_removed : (name : List ℕ) → Contains plan.removed name → (name ≢ index) × Contains (names_in old) name × (made_at f cs key k name ≡ None)
   is_removed name is =
       let there = was (is_left_over index docs) (names_in old) name is in
-      let parts = both_true (not (bytes_eq name index)) (not (contains_key docs name)) there.1 in
-      (
+      let parts = both_true (not (bytes_eq name index)) (not (contains_key docs name)) there.1 in (
         (λ same. absurd (let yes_ : bytes_eq name index ≡ true = same_bytes name index same in let no_ : bytes_eq name index ≡ false = not_true (bytes_eq name index) parts.0 in let no : ⊥ = cc in no)),
         there.0,
         none_made name (none_of (get docs name) (not_true (contains_key docs name) parts.1)),

@@ -1,14 +1,13 @@
 -- A state that has taken in the items behind a sound id's state is from scratch at the catalog's end.
-use Rattle.std.proofs.Common.{◌≡◌, ◌≤◌, ℕ, List, [], ◌∷◌, ◌++◌, length, take, drop, Option, Some, None, refl, sym, ap, ◌∙◌, subst, arith}
+use Rattle.std.proofs.Common.{◌≡◌, ◌≤◌, ℕ, List, [], ◌∷◌, ◌++◌, length, take, drop, Option, Some, None, refl, sym, ap, ◌∙◌, arith}
 use Rattle.std.proofs.lemmas.List.{take_all, take-append-drop, take-map}
 use Rattle.pkg_meta.specs.Catalog.{Catalog}
 use Rattle.pkg_meta.specs.Lawful.{IsLawful, Placed, or_earlier}
 use Rattle.pkg_meta.specs.declared.commit.Commit.{Commit}
 use Rattle.pkg_meta.specs.declared.commit.Stored.{Stored}
-use Rattle.pkg_meta.specs.declared.entry.Entry.{Entry}
 use Rattle.pkg_meta.specs.declared.state.StateDoc.{StateDoc}
 use Rattle.fold_core.specs.Entries.{Keeps, entries_of}
-use Rattle.fold_core.specs.Folds.{Fold, Look, touched_by}
+use Rattle.fold_core.specs.Folds.{Fold, Look}
 use Rattle.fold_core.specs.Items.{commits_of, items_of, last_placed, moment_in, number_in, touched, touched_at, touched_stamp}
 use Rattle.fold_core.specs.Places.{all_applied}
 use Rattle.fold_core.specs.Sound.{HasState, IsScratch}

@@ -1,13 +1,12 @@
 -- The states of a pass over a catalog are of the values of the code's types.
-use Rattle.std.proofs.Common.{◌≡◌, ◌<◌, ◌≤◌, ◌+◌, ◌^◌, ◌⊎◌, inl, inr, ℕ, zero, suc, List, [], ◌∷◌, ◌++◌, length, take, All, Bool, true, false, cond, Option, Some, None, IfSome, IsUtf8, refl, sym, ◌∙◌, ap, subst, arith, length-append, slice_get}
-use Rattle.std.proofs.lemmas.List.{take_all, take-map}
+use Rattle.std.proofs.Common.{◌≡◌, ◌<◌, ◌≤◌, ◌+◌, ◌^◌, ℕ, zero, suc, List, [], ◌∷◌, ◌++◌, length, take, All, Bool, true, false, cond, Some, None, IfSome, IsUtf8, refl, sym, ◌∙◌, ap, subst, arith, length-append, slice_get}
+use Rattle.std.proofs.lemmas.List.{take_all}
 use Rattle.std.proofs.lemmas.List.Elements.{All-contains, All-contains_itself}
 use Rattle.std.proofs.lemmas.List.Folds.{flat_map-map}
 use Rattle.std.specs.List.{AllByRecursion, Contains, filter}
 use Rattle.std.specs.Prelude.{flat_map}
 use Rattle.pkg_meta.specs.Catalog.{Catalog}
 use Rattle.pkg_meta.specs.Lawful.{IsLawful, MayFollow, Placed, all_placed, placed_from, placed_of}
-use Rattle.pkg_meta.specs.declared.commit.Commit.{Commit}
 use Rattle.pkg_meta.specs.declared.commit.Stored.{Stored}
 use Rattle.pkg_meta.specs.declared.entry.Entry.{Entry}
 use Rattle.pkg_meta.specs.declared.item.Item.{Item}
@@ -20,7 +19,7 @@ use Rattle.catalog_laws.specs.Values.{HaveItemValues}
 use Rattle.catalog_laws.proofs.ItemValues.{item_values}
 use Rattle.fold_core.specs.Entries.{Keeps, entries_of, entry_at}
 use Rattle.fold_core.specs.Folds.{Fold, touched_by}
-use Rattle.fold_core.specs.Items.{commits_of, is_of, items_in, items_of, stamp_at, stamp_in, touched, touched_stamp}
+use Rattle.fold_core.specs.Items.{commits_of, is_of, items_in, items_of, stamp_at, stamp_in, touched}
 use Rattle.fold_core.specs.Sound.{IsScratch}
 use Rattle.fold_core.proofs.Rising.{all_joined, entries_all}
 use Rattle.fold_core.proofs.Touches.{touched_within}

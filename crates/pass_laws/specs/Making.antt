@@ -21,13 +21,13 @@ AreMadeBy cs (call ∷ calls) [] = ⊥
 AreMadeBy cs (call ∷ calls) (c ∷ made) = IsMadeBy cs call c × AreMadeBy cs calls made
 
 -- the catalog has the bytes of what a call puts
-abbrev pub HasBytes : Catalog → Call → Type 0
-HasBytes cs (Put name body) = IsSome (bytes_of cs body)
-HasBytes cs (Remove name) = ⊤
+abbrev pub HasCallBytes : Catalog → Call → Type 0
+HasCallBytes cs (Put name body) = IsSome (bytes_of cs body)
+HasCallBytes cs (Remove name) = ⊤
 
 -- of what each call puts
-abbrev pub HaveBytes : Catalog → List Call → Type 0
-HaveBytes cs calls = AllByRecursion (HasBytes cs) calls
+abbrev pub HaveCallBytes : Catalog → List Call → Type 0
+HaveCallBytes cs calls = AllByRecursion (HasCallBytes cs) calls
 
 -- some of the calls, from the first
 abbrev pub AreSomeMadeBy : Catalog → List Call → List StoreCall → Type 0

@@ -8,7 +8,7 @@ ghost use Rattle.pkg_meta.specs.declared.state.StateDoc.{StateDoc};
 ghost use Rattle.fold_core.specs.Folds.{fold_of};
 ghost use Rattle.hive_laws.specs.Rounds.{IsLed, IsPartlyPassed};
 ghost use Rattle.id_pass.specs.declared.call.Call.{Call};
-ghost use Rattle.pass_laws.specs.Making.{AreMadeBy, AreSomeMadeBy, HaveBytes};
+ghost use Rattle.pass_laws.specs.Making.{AreMadeBy, AreSomeMadeBy, HaveCallBytes};
 ghost use Rattle.pass_laws.specs.Starting.{AreCallsOf, StartsPassOf};
 
 use fold_core::Hive;
@@ -18,11 +18,14 @@ use fold_core::Hive;
 /// they put. It does nothing.
 pub fn passes_lead_ids<H: Hive>()
     ensures bytes { (base : List ℕ) (cs : Catalog) (c : ℕ) (key : List ℕ) (old : Option StateDoc) (m : Area) (calls : List Call)
-        → StartsPassOf (fold_of H.keeps H.makes base) cs c key old m → AreCallsOf (fold_of H.keeps H.makes base) cs c key old calls → HaveBytes cs calls }
+        → StartsPassOf (fold_of H.keeps H.makes base) cs c key old m → AreCallsOf (fold_of H.keeps H.makes base) cs c key old calls
+        → HaveCallBytes cs calls }
     ensures led { (base : List ℕ) (cs : Catalog) (c : ℕ) (key : List ℕ) (old : Option StateDoc) (m : Area) (calls : List Call) (made : List StoreCall)
-        → StartsPassOf (fold_of H.keeps H.makes base) cs c key old m → AreCallsOf (fold_of H.keeps H.makes base) cs c key old calls → AreMadeBy cs calls made
+        → StartsPassOf (fold_of H.keeps H.makes base) cs c key old m → AreCallsOf (fold_of H.keeps H.makes base) cs c key old calls
+        → AreMadeBy cs calls made
         → IsLed (fold_of H.keeps H.makes base) cs key (length cs) m (after_calls made m) }
     ensures partly { (base : List ℕ) (cs : Catalog) (c : ℕ) (key : List ℕ) (old : Option StateDoc) (m left : Area) (calls : List Call) (made : List StoreCall)
-        → StartsPassOf (fold_of H.keeps H.makes base) cs c key old m → AreCallsOf (fold_of H.keeps H.makes base) cs c key old calls → AreSomeMadeBy cs calls made
+        → StartsPassOf (fold_of H.keeps H.makes base) cs c key old m → AreCallsOf (fold_of H.keeps H.makes base) cs c key old calls
+        → AreSomeMadeBy cs calls made
         → IsAfterSome made m left → (left ≡ m) ⊎ IsPartlyPassed (fold_of H.keeps H.makes base) cs key (length cs) m left }
 {}
