@@ -23,6 +23,8 @@ pub use ask::{Ask, CommitWord, RouteErr};
 pub use bases::base_ok;
 pub use hives::hive_named;
 pub use index::service_index;
-pub use laws::{base_addresses_are_tested, documents_have_routes, keys_stand_in_paths, table_is_a_function};
+pub use laws::{
+    base_addresses_are_tested, documents_have_routes, keys_stand_in_paths, table_is_a_function,
+};
 pub use routing::route;
 pub use service::{Answer, Service};
