@@ -5,15 +5,16 @@ use Rattle.admin_wire.specs.declared.line.Line.TheVariants as line
 use Rattle.admin_wire.specs.declared.area.AreaName.{AreaName}
 use Rattle.feed_app.specs.Accepts.{Accepts}
 use Rattle.feed_app.specs.Answers.{answer_status}
-use Rattle.feed_app.specs.Commands.{Command, Init, Get, Publish, Names, Job, command_of}
+use Rattle.feed_app.specs.Commands.{Command, Init, Get, Publish, Names, Job, Cursor, command_of}
 use Rattle.feed_app.specs.Does.{Does, meaning, reach_of}
-use Rattle.feed_app.specs.Frame.{Explains, IsDone, IsLost, KeepsAreas, Meaning, Touches, most_input, touch_of}
+use Rattle.feed_app.specs.Frame.{Explains, HasLost, IsDone, KeepsAreas, Meaning, Touches, most_input, touch_of}
 use Rattle.feed_app.specs.Outside.{AreaRose, Bounds, Members, Outside, Rose, Shows, Sight, Stream, area_of, input_of, output_of, sight}
 use Rattle.feed_app.specs.Runs.{IsGood, IsQuiet, CanBeDone, IsTouchedBy, Quiet, RunsCommand}
 use Rattle.feed_app.specs.Writes.{WritesAnswer}
 use Rattle.feed_app.specs.declared.answer.Answer.{Answer}
 use Rattle.feed_app.specs.declared.answer.Answer.TheVariants.{Reply, Usage}
 use Rattle.feed_app.proofs.CommittedNames.{names_accepts}
+use Rattle.feed_app.proofs.Cursors.{cursor_accepts}
 use Rattle.feed_app.proofs.Gets.{get_accepts}
 use Rattle.feed_app.proofs.Inits.{init_accepts}
 use Rattle.feed_app.proofs.Jobs.{job_accepts}
@@ -25,6 +26,7 @@ accepts m (Init base) = init_accepts m base
 accepts m Publish = publish_accepts m
 accepts m (Names kind pairs) = names_accepts m kind pairs
 accepts m (Job hive) = job_accepts m hive
+accepts m (Cursor hive) = cursor_accepts m hive
 accepts m (Get path) = get_accepts m path
 
 -- a status that isn't 5 or 8 is the answer's
@@ -142,13 +144,13 @@ module _ {B I O C : Type 0} (b : Bounds B I O C) (words : List (List ℕ)) (befo
       inl why.1)
       (λ other. ⊎_elim (λ memory. absurd (omega (arith, is, memory.number))) (λ prefix. inr prefix.rose) other) run.writes
 
-  pub damaged : status ≡ 6 → (name : AreaName) × IsTouchedBy b.blobs words name × IsLost name (b.blobs.seen (area_of before.stores name))
+  pub damaged : status ≡ 6 → (command : Command) × (command_of words ≡ Some command) × HasLost b.blobs (meaning b.blobs command).reach before.stores after.stores
   damaged is =
       let kind : answer_status run.answer ≡ 6 = its_status (λ e. omega (arith, is, e)) (λ e. omega (arith, is, e)) ∙ is in
       let cause = its_cause (λ e. omega (arith, kind, e)) in
       let lost = is_damage run.answer kind in
       let why = subst (λ (a : Answer). Explains b.blobs (meaning b.blobs cause.0).reach (sight b before) a (sight b after)) lost.2 cause.2 in
-      (lost.0, (cause.0, cause.1, why.0), why.1)
+      (cause.0, cause.1, (lost.0, lost.1, why.0, why.1))
 
   pub too_long : status ≡ 7 → (command : Command) × (command_of words ≡ Some command) × Touches (meaning b.blobs command).reach.input
       × IfSome (b.source.left before.input) (λ body. most_input < length body)

@@ -12,13 +12,12 @@ use Rattle.catalog_opening.specs.Errors.{IfDamagedIn}
 use Rattle.catalog_opening.specs.Openings.{IsDamagedOf, IsStoreOf, Mends}
 use Rattle.catalog_opening.specs.declared.error.OpenErr.{OpenErr}
 use Rattle.catalog_opening.specs.declared.error.OpenErr.TheVariants as opening
-use Rattle.feed_paths.specs.declared.hives.ServedHive.{ServedHive}
+use Rattle.fold_core.specs.declared.hive.HiveName.{HiveName}
 use Rattle.admin_wire.specs.declared.line.Line.TheVariants as line
 use Rattle.admin_wire.specs.declared.area.AreaName.TheVariants as area
 use Rattle.feed_app.specs.Answers.{answer_status}
 use Rattle.feed_app.specs.Causes.{open_answer}
 use Rattle.feed_app.specs.Frame.{Explains, Reach, Touches}
-use Rattle.feed_app.specs.Hives.{hive_area}
 use Rattle.feed_app.specs.Openings.{IsOfStore, NotOpened, OpensNone}
 use Rattle.feed_app.specs.Outside.{AreaRose, Members, Sight}
 use Rattle.feed_app.specs.declared.answer.Answer.{Answer}
@@ -67,7 +66,7 @@ pub closed_rose : (e : OpenErr) (s now : Seen) (answer : Answer) → answer ≡ 
     → answer ≡ Reply (line.Fault area.Catalog) → HasRisen s.faults now.faults
 closed_rose e s now answer is mends fault = let rose = mends.counts.risen (fault_by e (sym is ∙ fault)) in omega (arith, rose)
 
-pub not_of_hive : {X : Type 0} (answer : Answer) (s : Seen) (hive : ServedHive) → NotOpened answer s → answer ≡ Reply (line.Fault (hive_area hive)) → X
+pub not_of_hive : {X : Type 0} (answer : Answer) (s : Seen) (hive : HiveName) → NotOpened answer s → answer ≡ Reply (line.Fault (area.Hive hive)) → X
 not_of_hive answer s hive closed is = absurd (subst (λ (a : Answer). OpensNone a s) is closed.told)
 
 -- why it came
@@ -76,6 +75,6 @@ pub closed_explains : {B : Type 0} (m : Members B) (reach : Reach) (before after
     → Explains m reach before answer after
 closed_explains m reach before after (Reply (line.Refused why)) touches rose closed = tt
 closed_explains m reach before after (Reply (line.Fault area.Catalog)) touches rose closed = (touches, rose refl)
-closed_explains m reach before after (Reply (line.Damaged area.Catalog blob)) touches rose closed = (touches, λ base cs has. closed.of_store base cs has)
+closed_explains m reach before after (Reply (line.Damaged area.Catalog blob)) touches rose closed = (touches, inl (λ base cs has. closed.of_store base cs has))
 closed_explains m reach before after (Reply line.Memory) touches rose closed = tt
 closed_explains m reach before after _ touches rose closed = absurd closed.told

@@ -1,9 +1,10 @@
 -- Where a text is cut at a mark.
-use Rattle.std.proofs.Common.{◌≡◌, ◌+◌, ◌-◌, ℕ, List, [], ◌∷◌, ◌++◌, length, take, drop, Some, not, sym, ap, ◌∙◌, arith, length-append, length-drop, drop-cons, add-one, get_or, take-append-drop}
+use Rattle.std.proofs.Common.{◌≡◌, ◌+◌, ◌-◌, ◌<◌, ◌≢◌, zero, suc, ℕ, List, [], ◌∷◌, ◌++◌, length, take, drop, Some, not, sym, ap, ◌∙◌, arith, length-append, length-drop, drop-cons, add-one, get_or, take-append-drop}
 use Rattle.std.specs.Prelude.{◌==◌}
 use Rattle.std.specs.List.{list_all, position, position_or_len}
 use Rattle.std.proofs.Math.Seq.{take-append_seam, drop-append-add, take-length}
 use Rattle.std.proofs.lemmas.Bool.{and_parts, eqb-true}
+use Rattle.std.proofs.lemmas.Bool.Decides.{nat_tests}
 use Rattle.std.proofs.lemmas.List.Quantifiers.{position-Some}
 use Rattle.feed_paths.specs.Cuts.{IsFree}
 
@@ -24,6 +25,14 @@ seam mark front back free =
 pub first_at : (mark : ℕ) (bytes front back : List ℕ) → IsFree mark front → bytes ≡ front ++ (mark ∷ back)
     → position (λ b. b == mark) bytes ≡ Some (length front)
 first_at mark bytes front back free e = rw e (seam mark front back free)
+
+-- no byte of a text without the mark is the mark
+pub free_byte : (mark : ℕ) (text : List ℕ) → IsFree mark text → (i : ℕ) → i < length text → get_or text i 0 ≢ mark
+free_byte mark [] free i low = absurd (omega arith)
+free_byte mark (b ∷ text) free zero low =
+    let p = and_parts (not (b == mark)) (list_all (λ b. not (b == mark)) text) free in grind (arith, nat_tests)
+free_byte mark (b ∷ text) free (suc i) low =
+    let p = and_parts (not (b == mark)) (list_all (λ b. not (b == mark)) text) free in free_byte mark text p.1 i (omega arith)
 
 -- what stands before and behind the mark
 pub pieces_at : (mark at : ℕ) (bytes front back : List ℕ) → bytes ≡ front ++ (mark ∷ back) → at ≡ length front

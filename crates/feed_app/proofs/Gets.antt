@@ -45,7 +45,7 @@ module _ {B : Type 0} (m : Members B) (path : List ℕ) (before after : Sight B)
   catalog_explains (Document bytes) name rose is = tt
   catalog_explains (Reply (line.Refused why)) name rose is = tt
   catalog_explains (Reply (line.Fault area.Catalog)) name rose is = (tt, rose refl)
-  catalog_explains (Reply (line.Damaged area.Catalog blob)) name rose is = (tt, λ base cs has. is.document base cs has)
+  catalog_explains (Reply (line.Damaged area.Catalog blob)) name rose is = (tt, inl (λ base cs has. is.document base cs has))
   catalog_explains (Reply line.Memory) name rose is = tt
   catalog_explains _ name rose is = absurd is.kind
 
@@ -126,17 +126,17 @@ module _ {B : Type 0} (m : Members B) (answer : Answer) (path bytes : List ℕ) 
   by_catalog name blobs there holds names (inr (same, inr (inr (inl of_none)))) = absurd (of_none.0.catalog name names)
   by_catalog name blobs there holds names (inr (same, inr (inr (inr memory)))) = inr (inr memory)
 
-  by_name : (hive : ServedHive) (rest : List ℕ) (blobs : Area) → held m (old hive) ≡ Some blobs → get blobs (stored_name rest) ≡ Some bytes
+  by_hive_name : (hive : ServedHive) (rest : List ℕ) (blobs : Area) → held m (old hive) ≡ Some blobs → get blobs (stored_name rest) ≡ Some bytes
       → IsHivePath hive path rest
       → AnswersPath m answer path (HasCatalog catalog) old new → IsGood (hive_area hive) bytes answer
-  by_name hive rest blobs there holds names (inl (one, more, its, is, others)) =
+  by_hive_name hive rest blobs there holds names (inl (one, more, its, is, others)) =
       let same = same_rest one hive path more rest its names in
       of_hive_held (held m (old hive)) blobs bytes there hive rest holds answer
       (subst (λ (h : ServedHive). OfHive h answer rest (held m (old h))) same.0 (subst (λ (r : List ℕ). OfHive one answer r (held m (old one))) same.1 is))
-  by_name hive rest blobs there holds names (inr (same, inl of_name)) = absurd (catalog_hive hive path of_name.0 rest of_name.1 names)
-  by_name hive rest blobs there holds names (inr (same, inr (inl not_yet))) = absurd (hive_not_yet hive path rest names not_yet.0)
-  by_name hive rest blobs there holds names (inr (same, inr (inr (inl of_none)))) = absurd (of_none.0.hive hive rest names)
-  by_name hive rest blobs there holds names (inr (same, inr (inr (inr memory)))) = inr (inr memory)
+  by_hive_name hive rest blobs there holds names (inr (same, inl of_name)) = absurd (catalog_hive hive path of_name.0 rest of_name.1 names)
+  by_hive_name hive rest blobs there holds names (inr (same, inr (inl not_yet))) = absurd (hive_not_yet hive path rest names not_yet.0)
+  by_hive_name hive rest blobs there holds names (inr (same, inr (inr (inl of_none)))) = absurd (of_none.0.hive hive rest names)
+  by_hive_name hive rest blobs there holds names (inr (same, inr (inr (inr memory)))) = inr (inr memory)
 
 -- a document that is held is the answer, faults and out of memory aside
 module _ {B : Type 0} (m : Members B) (path bytes : List ℕ) (before after : Sight B) (answer : Answer) where
@@ -157,7 +157,7 @@ module _ {B : Type 0} (m : Members B) (path bytes : List ℕ) (before after : Si
       → IsGood area.Catalog bytes answer ⊎ IsGood (hive_area hive) bytes answer
   hive_held hive has (inl closed) = inl (closed_held has.2 closed.0)
   hive_held hive has (inr reads) =
-      inr (by_name m answer (without_query path) bytes (m.seen before.stores.catalog) (hive_stores before.stores)
+      inr (by_hive_name m answer (without_query path) bytes (m.seen before.stores.catalog) (hive_stores before.stores)
       (hive_stores after.stores) hive has.0 has.3.0 has.3.1 has.3.2 has.1 reads)
 
   answers : IsHeld m path bytes before → Acts → IsDocument bytes answer

@@ -1,158 +1,165 @@
 -- What follows for `job`.
-use Rattle.std.proofs.Common.{◌≡◌, ◌⊎◌, ℕ, List, Option, Some, None, IfSome, IsSome, arith, inl, inr, ⊎_elim, refl, sym, ap, subst}
-use Rattle.std.specs.FinMap.{get}
-use Rattle.feed_base.proofs.Options.{at_some}
+use Rattle.std.proofs.Common.{◌≡◌, ◌⊎◌, ◌≤◌, ℕ, List, Ok, Err, Option, Result, IfErr, IfSome, IsErrOf, inl, inr, ⊎_elim, refl, sym, ◌∙◌, ap, subst, arith}
+use Rattle.feed_base.specs.Counts.{CountsFault, HasRisen, raised}
 use Rattle.blob_store.specs.Area.{Area}
-use Rattle.pkg_meta.specs.Catalog.{Catalog}
 use Rattle.blob_store.specs.Seen.{Seen}
-use Rattle.cursor_doc.specs.Cursor.{cursor_name}
-use Rattle.fold_core.specs.Docs.{Makes}
-use Rattle.fold_core.specs.Entries.{Keeps}
-use Rattle.job_round.specs.Errors.{IfDamaged}
-use Rattle.job_round.specs.declared.error.RoundErr.{RoundErr}
-use Rattle.job_round.specs.declared.error.RoundErr.TheVariants as round
-use Rattle.feed_paths.specs.declared.hives.ServedHive.{ServedHive}
-use Rattle.feed_paths.specs.declared.hives.ServedHive.TheVariants as the
+use Rattle.pkg_meta.specs.Catalog.{Catalog}
+use Rattle.catalog_items.proofs.Getting.{counts_as}
+use Rattle.catalog_core.specs.Framing.{StaysOpen}
+use Rattle.catalog_core.specs.Opened.{Opened}
+use Rattle.fold_core.specs.declared.hive.HiveName.{HiveName}
+use Rattle.id_pass.specs.declared.error.RoundErr.{RoundErr}
+use Rattle.id_pass.specs.declared.error.RoundErr.TheVariants as stop
+use Rattle.id_pass.specs.declared.error.RoundOut.{RoundOut}
+use Rattle.id_pass.specs.declared.error.RoundOut.TheVariants as out
+use Rattle.job_round.specs.Answers.{IfDamagedText, in_catalog, in_hive}
 use Rattle.admin_wire.specs.declared.line.Line.TheVariants as line
-use Rattle.admin_wire.specs.declared.line.Refusal.TheVariants as refusal
 use Rattle.admin_wire.specs.declared.area.AreaName.{AreaName}
 use Rattle.admin_wire.specs.declared.area.AreaName.TheVariants as area
-use Rattle.feed_app.specs.Causes.{round_answer}
 use Rattle.feed_app.specs.Accepts.{Accepts}
-use Rattle.feed_app.specs.Answers.{answer_status}
-use Rattle.feed_app.specs.Frame.{Explains, IsDone, KeepsAreas, Touches}
-use Rattle.feed_app.specs.Hives.{hive_area, hive_stores, keeps_in, makes_in}
-use Rattle.feed_app.specs.Jobs.{Builds, IsPartlyBuilt, IsUnread, Jobs, job_meaning, job_reach}
-use Rattle.feed_app.specs.Outside.{AreaRose, Members, Shows, Sight, held}
-use Rattle.feed_app.specs.Spelled.{ForEach, HasCatalog, HoldsCatalog, Of}
+use Rattle.feed_app.specs.Causes.{AnswersDamage, AnswersRound, AnswersStop}
+use Rattle.feed_app.specs.Damages.{IsLostOfHive, IsUnread}
+use Rattle.feed_app.specs.Frame.{Explains, IsDone, KeepsAreas}
+use Rattle.feed_app.specs.Jobs.{RoundTold, Jobs, MadeOver, job_meaning, job_reach}
+use Rattle.feed_app.specs.Outside.{AreaRose, Members, Sight, area_of, held}
+use Rattle.feed_app.specs.Spelled.{IsSpelled}
 use Rattle.feed_app.specs.declared.answer.Answer.{Answer}
 use Rattle.feed_app.specs.declared.answer.Answer.TheVariants.{Reply}
-use Rattle.feed_app.proofs.Absent.{not_both}
-use Rattle.feed_app.proofs.Closed.{closed_explains, of_store_not}
-use Rattle.feed_app.proofs.Places.{by_area, job_touches}
+use Rattle.feed_app.proofs.Closed.{closed_explains}
+use Rattle.feed_app.proofs.OneHive.{job_changes, job_touches}
 
-module _ {B : Type 0} (m : Members B) (keeps : Keeps) (makes : Makes) (hive : ServedHive) (before after : Sight B) where
+-- what a round's result is told as
+module _ (hive : HiveName) (Made : Result RoundOut RoundErr → Type 0) (Unread Lost : List ℕ → Type 0) where
+  abbrev AnswersSo : Answer → Type 0
+  AnswersSo answer = RoundTold Made Unread Lost hive answer
+
+  -- why a text is told as damaged
+  abbrev Why : List ℕ → Type 0
+  Why text = ((name : List ℕ) × (text ≡ in_catalog name) × Unread name) ⊎ ((other : HiveName) × (name : List ℕ) × (text ≡ in_hive other name) × Lost name)
+
+  memory : (text : List ℕ) (answer : Answer) → Made (Err (stop.Damaged text)) → answer ≡ Reply line.Memory → AnswersSo answer
+  memory text answer made is = subst AnswersSo (sym is) (inr (text, made))
+
+  stop_answers : (e : RoundErr) (answer : Answer) → AnswersStop hive e answer → Made (Err e) → IfDamagedText e Why → AnswersSo answer
+  stop_answers stop.CatalogFault answer is made why = subst AnswersSo (sym is) made
+  stop_answers stop.HiveFault answer is made why = subst AnswersSo (sym is) (refl, made)
+  stop_answers (stop.Damaged text) answer is made (inl (name, spelled, unread)) =
+      ⊎_elim (λ e. subst AnswersSo (sym e) (unread, (text, made))) (memory text answer made) (is.of_catalog name spelled)
+  stop_answers (stop.Damaged text) answer is made (inr (other, name, spelled, lost)) =
+      ⊎_elim (λ e. subst AnswersSo (sym e) (refl, lost, (text, made))) (memory text answer made) (is.of_hive other name spelled)
+  stop_answers stop.Memory answer is made why = subst AnswersSo (sym is) (inl made)
+
+  pub round_answers : (r : Result RoundOut RoundErr) (answer : Answer) → AnswersRound hive r answer → Made r → IfErr r (λ e. IfDamagedText e Why) → AnswersSo answer
+  round_answers (Ok (out.Done n)) answer is made why = subst AnswersSo (sym is) (refl, made)
+  round_answers (Ok (out.Idle n)) answer is made why = subst AnswersSo (sym is) (refl, made)
+  round_answers (Err e) answer is made why = stop_answers e answer is made why
+
+-- a fault that is told
+module _ (hive : HiveName) where
+  not_damage : {X : Type 0} (answer : Answer) (name other : AreaName) (blob : List ℕ) → AnswersDamage name blob answer → answer ≡ Reply (line.Fault other) → X
+  not_damage answer name other blob (inl e) is = cc (e, is)
+  not_damage answer name other blob (inr e) is = cc (e, is)
+
+  pub stop_of_hive : (e : RoundErr) (answer : Answer) → AnswersStop hive e answer → answer ≡ Reply (line.Fault (area.Hive hive)) → e ≡ stop.HiveFault
+  stop_of_hive stop.CatalogFault answer told is = cc (told, is)
+  stop_of_hive stop.HiveFault answer told is = refl
+  stop_of_hive (stop.Damaged text) answer told is = not_damage answer told.one.0 (area.Hive hive) told.one.1 told.one.2 is
+  stop_of_hive stop.Memory answer told is = cc (told, is)
+
+  stop_of_catalog : (e : RoundErr) (answer : Answer) → AnswersStop hive e answer → answer ≡ Reply (line.Fault area.Catalog) → e ≡ stop.CatalogFault
+  stop_of_catalog stop.CatalogFault answer told is = refl
+  stop_of_catalog stop.HiveFault answer told is = cc (told, is)
+  stop_of_catalog (stop.Damaged text) answer told is = not_damage answer told.one.0 area.Catalog told.one.1 told.one.2 is
+  stop_of_catalog stop.Memory answer told is = cc (told, is)
+
+  pub of_hive : (r : Result RoundOut RoundErr) (answer : Answer) → AnswersRound hive r answer → answer ≡ Reply (line.Fault (area.Hive hive)) → IsErrOf r stop.HiveFault
+  of_hive (Ok (out.Done n)) answer told is = cc (told, is)
+  of_hive (Ok (out.Idle n)) answer told is = cc (told, is)
+  of_hive (Err e) answer told is = ap Err (stop_of_hive e answer told is)
+
+  pub of_catalog : (r : Result RoundOut RoundErr) (answer : Answer) → AnswersRound hive r answer → answer ≡ Reply (line.Fault area.Catalog)
+      → IsErrOf r stop.CatalogFault
+  of_catalog (Ok (out.Done n)) answer told is = cc (told, is)
+  of_catalog (Ok (out.Idle n)) answer told is = cc (told, is)
+  of_catalog (Err e) answer told is = ap Err (stop_of_catalog e answer told is)
+
+  pub told_of_catalog : (r : Result RoundOut RoundErr) (answer : Answer) → AnswersRound hive r answer → IsErrOf r stop.CatalogFault
+      → answer ≡ Reply (line.Fault area.Catalog)
+  told_of_catalog r answer told is = subst (λ (x : Result RoundOut RoundErr). AnswersRound hive x answer) is told
+
+-- a count rose where a call failed
+pub rose_by : (old new : ℕ) (F : Type 0) → CountsFault old new F → F → HasRisen old new
+rose_by old new F counts failed = let is : new ≡ raised old = counts.risen failed in omega (arith, is)
+
+-- a failure that is told otherwise
+pub stays_as : {B : Type 0} (o n : Opened B) (a b : Seen) (F G : Type 0) → StaysOpen o n a b F → (F → G) → (G → F) → StaysOpen o n a b G
+stays_as o n a b F G stays to back = record {
+  mends = record { counts = counts_as a.faults b.faults F G stays.mends.counts to back; area = stays.mends.area };
+  base = stays.base;
+  settled = stays.settled;
+  open_for = stays.open_for;
+}
+
+-- what a job of an open catalog answered, behind its opening
+module _ (hive : HiveName) (Made As : Result RoundOut RoundErr → Type 0) (Unread Lost Absent Gone : List ℕ → Type 0)
+    (to : (r : Result RoundOut RoundErr) → Made r → As r) (absent : (name : List ℕ) → Unread name → Absent name)
+    (gone : (name : List ℕ) → Lost name → Gone name) where
+  pub answers_as : (answer : Answer) → RoundTold Made Unread Lost hive answer → RoundTold As Absent Gone hive answer
+  answers_as (Reply (line.Done which n)) is = (is.0, to (Ok (out.Done n)) is.1)
+  answers_as (Reply (line.Idle which n)) is = (is.0, to (Ok (out.Idle n)) is.1)
+  answers_as (Reply (line.Fault area.Catalog)) is = to (Err stop.CatalogFault) is
+  answers_as (Reply (line.Fault (area.Hive which))) is = (is.0, to (Err stop.HiveFault) is.1)
+  answers_as (Reply (line.Damaged area.Catalog name)) is = (absent name is.0, (is.1.0, to (Err (stop.Damaged is.1.0)) is.1.1))
+  answers_as (Reply (line.Damaged (area.Hive which) name)) is = (is.0, gone name is.1, (is.2.0, to (Err (stop.Damaged is.2.0)) is.2.1))
+  answers_as (Reply line.Memory) (inl made) = inl (to (Err stop.Memory) made)
+  answers_as (Reply line.Memory) (inr (text, made)) = inr (text, to (Err (stop.Damaged text)) made)
+  answers_as _ is = absurd is
+
+module _ {B : Type 0} (m : Members B) (hive : HiveName) (before after : Sight B) where
   abbrev Explained : Answer → Type 0
   Explained answer = Explains m (job_reach hive) before answer after
 
   abbrev Told : Seen
   Told = m.seen before.stores.catalog
 
+  abbrev Kept : Option Area
+  Kept = held m (area_of after.stores (area.Hive hive))
+
   abbrev CatalogCause : Answer → Type 0
   CatalogCause answer = answer ≡ Reply (line.Fault area.Catalog) → AreaRose m before.stores.catalog after.stores.catalog
 
   abbrev HiveCause : Answer → Type 0
-  HiveCause answer = answer ≡ Reply (line.Fault (hive_area hive)) → AreaRose m (hive_stores before.stores hive) (hive_stores after.stores hive)
+  HiveCause answer = answer ≡ Reply (line.Fault (area.Hive hive)) → AreaRose m (area_of before.stores (area.Hive hive)) (area_of after.stores (area.Hive hive))
 
-  fault_explains : (name : AreaName) → CatalogCause (Reply (line.Fault name)) → HiveCause (Reply (line.Fault name))
-      → (name ≡ area.Catalog) ⊎ (name ≡ hive_area hive) → Explained (Reply (line.Fault name))
-  fault_explains name rose other is = ⊎_elim
-      (λ e. subst (λ (n : AreaName). Explained (Reply (line.Fault n))) (sym e) ((job_touches hive).0, rose (ap (λ (n : AreaName). Reply (line.Fault n)) e)))
-      (λ e. subst (λ (n : AreaName). Explained (Reply (line.Fault n))) (sym e)
-      ((job_touches hive).1, by_area m before.stores after.stores hive (other (ap (λ (n : AreaName). Reply (line.Fault n)) e)))) is
+  round_explains : (Made : Result RoundOut RoundErr → Type 0) (answer : Answer) → CatalogCause answer → HiveCause answer
+      → RoundTold Made (IsUnread Told.held) (IsLostOfHive (IsSpelled Told) Kept) hive answer → Explained answer
+  round_explains Made (Reply (line.Done which n)) rose other is = tt
+  round_explains Made (Reply (line.Idle which n)) rose other is = tt
+  round_explains Made (Reply (line.Fault area.Catalog)) rose other is = ((job_touches hive).0, rose refl)
+  round_explains Made (Reply (line.Fault (area.Hive which))) rose other is =
+      subst (λ (h : HiveName). Explained (Reply (line.Fault (area.Hive h)))) (sym is.0)
+      ((job_touches hive).1, other (ap (λ (h : HiveName). Reply (line.Fault (area.Hive h))) is.0))
+  round_explains Made (Reply (line.Damaged area.Catalog name)) rose other is = ((job_touches hive).0, inr (job_changes hive, is.0))
+  round_explains Made (Reply (line.Damaged (area.Hive which) name)) rose other is =
+      subst (λ (h : HiveName). Explained (Reply (line.Damaged (area.Hive h) name))) (sym is.0) ((job_touches hive).1, is.1)
+  round_explains Made (Reply line.Memory) rose other is = tt
+  round_explains Made _ rose other is = absurd is
 
-  module _ (old new : Option Area) where
-    build_explains : (answer : Answer) → CatalogCause answer → HiveCause answer
-        → Builds keeps makes hive answer (IsUnread Told.held) (HasCatalog Told) old new → Explained answer
-    build_explains (Reply (line.Done which n)) rose other is = tt
-    build_explains (Reply (line.Idle which n)) rose other is = tt
-    build_explains (Reply (line.Refused why)) rose other is = tt
-    build_explains (Reply (line.Fault name)) rose other is = fault_explains name rose other is.0
-    build_explains (Reply (line.Damaged area.Catalog name)) rose other is = ((job_touches hive).0, is.1)
-    build_explains (Reply line.Memory) rose other is = tt
-    build_explains _ rose other is = absurd is
+  explains : (answer : Answer) (untouched : Type 0) (old : Seen) → CatalogCause answer → HiveCause answer
+      → Jobs m hive answer Told untouched old (m.seen (area_of after.stores (area.Hive hive))) → Explained answer
+  explains answer untouched old rose other (inl (closed, same)) =
+      closed_explains m (job_reach hive) before after answer (job_touches hive).0 rose closed
+  explains answer untouched old rose other (inr is) =
+      round_explains (MadeOver m hive Told old (m.seen (area_of after.stores (area.Hive hive)))) answer rose other is
 
-  explains : (answer : Answer) (untouched : Type 0) (old new : Option Area) → CatalogCause answer → HiveCause answer
-      → Jobs keeps makes hive answer Told untouched old new → Explained answer
-  explains answer untouched old new rose other (inl (closed, same)) = closed_explains m (job_reach hive) before after answer (job_touches hive).0 rose closed
-  explains answer untouched old new rose other (inr builds) = build_explains old new answer rose other builds
+  -- the job of a hive was done
+  pub job_done : (answer : Answer) → KeepsAreas m (job_reach hive) before.stores after.stores → CatalogCause answer → HiveCause answer
+      → (job_meaning m hive).acts before answer after → IsDone m (job_meaning m hive) before answer after
+  job_done answer keeps rose other is = record { keeps = keeps; explains = explains answer _ _ rose other is; acts = is }
 
--- a job reads no input
-reads_no_input : (hive : ServedHive) → Touches (job_reach hive).input → ⊥
-reads_no_input the.Plain touched = touched
-reads_no_input the.SemVer2 touched = touched
-reads_no_input the.Content touched = touched
-
--- the job of a hive was done
-pub job_done : {B : Type 0} (m : Members B) (hive : ServedHive) (before after : Sight B) (answer : Answer)
-    → KeepsAreas m (job_reach hive) before.stores after.stores
-    → (answer ≡ Reply (line.Fault area.Catalog) → AreaRose m before.stores.catalog after.stores.catalog)
-    → (answer ≡ Reply (line.Fault (hive_area hive)) → AreaRose m (hive_stores before.stores hive) (hive_stores after.stores hive))
-    → (job_meaning m hive).acts before answer after → IsDone m (job_meaning m hive) before answer after
-job_done m hive before after answer keeps rose other is = record {
-  keeps = keeps;
-  explains = explains m (keeps_in hive) (makes_in hive) hive before after answer _ _ _ rose other is;
-  acts = is;
-}
-
--- a catalog that is spelled is built in an area without a cursor
-module _ (keeps : Keeps) (makes : Makes) (hive : ServedHive) (told : Seen) (old new : Option Area)
-    (fresh : Area) (base : List ℕ) (cs : Catalog) (has : HasCatalog told base cs) (kept : old ≡ Some fresh) (no_cursor : get fresh cursor_name ≡ None) where
-  not_stopped : (answer : Answer) → Builds keeps makes hive answer (IsUnread told.held) (HasCatalog told) old new → answer_status answer ≡ 3 → ⊥
-  not_stopped (Reply (line.Refused refusal.Unsupported)) is three =
-      not_both (get fresh cursor_name) (at_some old (λ b. IsSome (get b cursor_name)) fresh kept is.0) no_cursor
-  not_stopped (Reply (line.Done which n)) is three = omega (arith, three)
-  not_stopped (Reply (line.Idle which n)) is three = omega (arith, three)
-  not_stopped (Reply (line.Fault name)) is three = omega (arith, three)
-  not_stopped (Reply (line.Damaged name blob)) is three = omega (arith, three)
-  not_stopped (Reply line.Memory) is three = omega (arith, three)
-  not_stopped _ is three = is
-
-  undamaged : (answer : Answer) → Builds keeps makes hive answer (IsUnread told.held) (HasCatalog told) old new → answer_status answer ≡ 6 → ⊥
-  undamaged (Reply (line.Damaged area.Catalog blob)) is six = is.1 base cs has
-  undamaged (Reply (line.Damaged (area.Hive other) blob)) is six = is
-  undamaged _ is six = omega (arith, six)
-
--- what a job of an open catalog answered, behind its opening
-module _ (keeps : Keeps) (makes : Makes) (hive : ServedHive) (Is Are : Of) (Damages Lost : List ℕ → Type 0) (old new : Option Area)
-    (lost : (name : List ℕ) → Damages name → Lost name) (to : (base : List ℕ) (cs : Catalog) → Are base cs → Is base cs) where
-  pub builds_as : (answer : Answer) → Builds keeps makes hive answer Damages Is old new → Builds keeps makes hive answer Lost Are old new
-  builds_as (Reply (line.Done which n)) is = (is.0, is.1, λ base cs are. is.2 base cs (to base cs are))
-  builds_as (Reply (line.Idle which n)) is = (is.0, is.1, is.2, (λ base cs are. is.3 base cs (to base cs are)), is.4)
-  builds_as (Reply (line.Refused refusal.Unsupported)) is = is
-  builds_as (Reply (line.Fault name)) is = (is.0, λ base cs are. is.1 base cs (to base cs are))
-  builds_as (Reply (line.Damaged area.Catalog name)) is = (lost name is.0, λ base cs are. is.1 base cs (to base cs are))
-  builds_as (Reply line.Memory) is = λ base cs are. is base cs (to base cs are)
-  builds_as _ is = is
-
--- an error of a job
-pub stopped : (keeps : Keeps) (makes : Makes) (hive : ServedHive) (e : RoundErr) (Damages : List ℕ → Type 0) (old new : Option Area) (Is : Of)
-    → (e ≡ round.Unsupported → (new ≡ old) × IfSome old (λ a. IsSome (get a cursor_name)))
-    → IfDamaged e Damages → ForEach Is (λ base cs. IfDamaged e (λ n. ⊥)) → ForEach Is (λ base cs. IsPartlyBuilt keeps makes base cs old new)
-    → Builds keeps makes hive (round_answer (hive_area hive) e) Damages Is old new
-stopped keeps makes hive round.CatalogFault Damages old new Is built lost whole partly = (inl refl, partly)
-stopped keeps makes hive round.HiveFault Damages old new Is built lost whole partly = (inr refl, partly)
-stopped keeps makes hive (round.Damaged name) Damages old new Is built lost whole partly = (lost, whole)
-stopped keeps makes hive round.Unsupported Damages old new Is built lost whole partly = let kept = built refl in (kept.1, kept.0)
-stopped keeps makes hive round.Memory Damages old new Is built lost whole partly = partly
-
-abbrev IsReady : Seen → Option Area → Type 0
-IsReady told old = Shows told.held HoldsCatalog × Shows old (λ blobs. get blobs cursor_name ≡ None)
-
-module _ (keeps : Keeps) (makes : Makes) (hive : ServedHive) (told : Seen) (old new : Option Area) (untouched : Type 0) (ready : IsReady told old) where
-  abbrev its : HoldsCatalog ready.0.0
-  its = ready.0.2
-
-  its_catalog : HasCatalog told its.0 its.1
-  its_catalog = record { lawful = its.2; store = (ready.0.0, ready.0.1, its.3) }
-
-  refused : (answer : Answer) → Jobs keeps makes hive answer told untouched old new → answer_status answer ≡ 3 → ⊥
-  refused answer (inl (closed, same)) three =
-      of_store_not answer 3 (closed.of_store its.0 its.1 its_catalog) three (λ e. omega (arith, e)) (λ e. omega (arith, e))
-  refused answer (inr builds) three = not_stopped keeps makes hive told old new ready.1.0 its.0 its.1 its_catalog ready.1.1 ready.1.2 answer builds three
-
-  sound : (answer : Answer) → Jobs keeps makes hive answer told untouched old new → answer_status answer ≡ 6 → ⊥
-  sound answer (inl (closed, same)) six =
-      of_store_not answer 6 (closed.of_store its.0 its.1 its_catalog) six (λ e. omega (arith, e)) (λ e. omega (arith, e))
-  sound answer (inr builds) six = undamaged keeps makes hive told old new ready.1.0 its.0 its.1 its_catalog ready.1.1 ready.1.2 answer builds six
-
-pub job_accepts : {B : Type 0} (m : Members B) (hive : ServedHive) → Accepts (job_meaning m hive)
+pub job_accepts : {B : Type 0} (m : Members B) (hive : HiveName) → Accepts (job_meaning m hive)
 job_accepts m hive = record {
-  refused = λ before after answer ready acts.
-      refused (keeps_in hive) (makes_in hive) hive (m.seen before.stores.catalog) (held m (hive_stores before.stores hive))
-      (held m (hive_stores after.stores hive)) _ ready answer acts;
-  sound = λ before after answer ready acts.
-      sound (keeps_in hive) (makes_in hive) hive (m.seen before.stores.catalog) (held m (hive_stores before.stores hive))
-      (held m (hive_stores after.stores hive)) _ ready answer acts;
-  fits = λ before ready touched. absurd (reads_no_input hive touched);
+  refused = λ before after answer ready acts three. absurd ready;
+  sound = λ before after answer ready acts six. absurd ready;
+  fits = λ before ready touched. absurd ready;
 }

@@ -1,7 +1,9 @@
 pub mod Absent
+pub mod BlobTexts
 pub mod Calls
 pub mod Closed
 pub mod CommittedNames
+pub mod Cursors
 pub mod Cuts
 pub mod Ended
 pub mod Endings
@@ -12,6 +14,7 @@ pub mod Inits
 pub mod Jobs
 pub mod Left
 pub mod Naming
+pub mod OneHive
 pub mod Places
 pub mod Publishes
 pub mod Served

@@ -7,12 +7,10 @@ use Rattle.feed_paths.specs.Paths.{IsHivePath}
 use Rattle.feed_paths.specs.declared.hives.ServedHive.{ServedHive}
 use Rattle.feed_paths.specs.declared.hives.ServedHive.TheVariants.{Plain, SemVer2, Content}
 use Rattle.admin_wire.specs.declared.area.AreaName.TheVariants as area
-use Rattle.feed_app.specs.Frame.{Asks, KeepsAreas, KeepsArea, Nothing, Touch, Touches, touch_of}
+use Rattle.feed_app.specs.Frame.{Asks, KeepsArea, Nothing, Touch, Touches, touch_of}
 use Rattle.feed_app.specs.Gets.{asked_under, get_reach}
 use Rattle.feed_app.specs.Hives.{KeepsOthers, by_hive, hive_area, hive_stores}
-use Rattle.feed_app.specs.Jobs.{job_reach}
 use Rattle.feed_app.specs.Outside.{AreaRose, Members, area_of, held}
-use Rattle.feed_app.specs.Spelled.{StaysSpelled}
 
 module _ {B : Type 0} (m : Members B) (before after : Stores B) where
   -- a hive's store is that of its area
@@ -31,12 +29,6 @@ module _ {B : Type 0} (m : Members B) (before after : Stores B) where
 -- the catalog's area is no hive's
 pub no_hive_area : (hive : ServedHive) → area.Catalog ≡ hive_area hive → ⊥
 no_hive_area hive is = cc is
-
--- a job touches the catalog's area and the hive's
-pub job_touches : (hive : ServedHive) → Touches (job_reach hive).catalog × Touches (touch_of (job_reach hive) (hive_area hive))
-job_touches Plain = (tt, tt)
-job_touches SemVer2 = (tt, tt)
-job_touches Content = (tt, tt)
 
 -- a path that begins so begins so
 begins : (hive : ServedHive) (rest : List ℕ) → starts_with nat_eq (served_under hive ++ rest) (served_under hive) ≡ true
@@ -104,28 +96,3 @@ module _ {B : Type 0} (plain semver2 content other : B) where
   but_content Plain not = refl
   but_content SemVer2 not = refl
   but_content Content not = absurd (not refl)
-
--- a job that leaves the other hives' stores leaves all that isn't in its reach
-pub job_keeps : {B : Type 0} (m : Members B) (before after : Stores B) (hive : ServedHive) → StaysSpelled (m.seen before.catalog) (m.seen after.catalog)
-    → KeepsOthers hive (hive_stores before) (hive_stores after) → after.auto ≡ before.auto → KeepsAreas m (job_reach hive) before after
-job_keeps m before after Plain catalog others auto = record {
-  catalog = catalog;
-  plain = tt;
-  semver2 = others SemVer2 (λ e. cc e);
-  content = others Content (λ e. cc e);
-  auto = auto;
-}
-job_keeps m before after SemVer2 catalog others auto = record {
-  catalog = catalog;
-  plain = others Plain (λ e. cc e);
-  semver2 = tt;
-  content = others Content (λ e. cc e);
-  auto = auto;
-}
-job_keeps m before after Content catalog others auto = record {
-  catalog = catalog;
-  plain = others Plain (λ e. cc e);
-  semver2 = others SemVer2 (λ e. cc e);
-  content = tt;
-  auto = auto;
-}

@@ -1,7 +1,9 @@
 -- The answers for what a lower call answers.
+use Rattle.std.specs.Prelude.{◌≡◌, ◌⊎◌, ℕ, List, Result}
+use Rattle.std.specs.declared.result.Result.TheVariants.{Ok, Err}
 use Rattle.admin_wire.specs.declared.area.AreaName.{AreaName}
 use Rattle.admin_wire.specs.declared.area.AreaName.TheVariants as area
-use Rattle.admin_wire.specs.declared.line.Line.TheVariants.{FaultInput, Fault, TooLong, Damaged, Memory, Refused}
+use Rattle.admin_wire.specs.declared.line.Line.TheVariants.{Done, Idle, FaultInput, Fault, TooLong, Damaged, Memory, Refused}
 use Rattle.admin_wire.specs.declared.line.Refusal.TheVariants as refusal
 use Rattle.catalog_doc.specs.declared.error.CommitErr.{CommitErr}
 use Rattle.catalog_doc.specs.declared.error.CommitErr.TheVariants as commit
@@ -11,8 +13,12 @@ use Rattle.catalog_opening.specs.declared.error.OpenErr.{OpenErr}
 use Rattle.catalog_opening.specs.declared.error.OpenErr.TheVariants as opening
 use Rattle.catalog_opening.specs.declared.error.ReadErr.{ReadErr}
 use Rattle.catalog_opening.specs.declared.error.ReadErr.TheVariants as reading
-use Rattle.job_round.specs.declared.error.RoundErr.{RoundErr}
-use Rattle.job_round.specs.declared.error.RoundErr.TheVariants as round
+use Rattle.fold_core.specs.declared.hive.HiveName.{HiveName}
+use Rattle.id_pass.specs.declared.error.RoundErr.{RoundErr}
+use Rattle.id_pass.specs.declared.error.RoundErr.TheVariants as round
+use Rattle.id_pass.specs.declared.error.RoundOut.{RoundOut}
+use Rattle.id_pass.specs.declared.error.RoundOut.TheVariants as out
+use Rattle.job_round.specs.Answers.{in_catalog, in_hive}
 use Rattle.feed_base.specs.declared.take.TakeErr.{TakeErr}
 use Rattle.feed_base.specs.declared.take.TakeErr.TheVariants as taking
 use Rattle.feed_app.specs.declared.answer.Answer.{Answer}
@@ -59,10 +65,25 @@ read_answer (reading.Damaged name) = Reply (Damaged area.Catalog name)
 read_answer reading.Fault = Reply (Fault area.Catalog)
 read_answer reading.Memory = Reply Memory
 
--- where a job of the hive in this area stopped
-abbrev pub round_answer : AreaName → RoundErr → Answer
-round_answer name round.CatalogFault = Reply (Fault area.Catalog)
-round_answer name round.HiveFault = Reply (Fault name)
-round_answer name (round.Damaged blob) = Reply (Damaged area.Catalog blob)
-round_answer name round.Unsupported = Reply (Refused refusal.Unsupported)
-round_answer name round.Memory = Reply Memory
+-- a blob of this name in this area is told as damaged, or memory ran out
+abbrev pub AnswersDamage : AreaName → List ℕ → Answer → Type 0
+AnswersDamage name blob answer = (answer ≡ Reply (Damaged name blob)) ⊎ (answer ≡ Reply Memory)
+
+-- the blob that a round of this hive tells as damaged, whose text is that of its area and its name
+pub record AnswersDamagedText (hive : HiveName) (text : List ℕ) (answer : Answer) : Type 0 where
+  pub one : (name : AreaName) × (blob : List ℕ) × AnswersDamage name blob answer
+  pub of_catalog : (blob : List ℕ) → text ≡ in_catalog blob → AnswersDamage area.Catalog blob answer
+  pub of_hive : (other : HiveName) (blob : List ℕ) → text ≡ in_hive other blob → AnswersDamage (area.Hive hive) blob answer
+
+-- where a round of this hive stopped
+abbrev pub AnswersStop : HiveName → RoundErr → Answer → Type 0
+AnswersStop hive round.CatalogFault answer = answer ≡ Reply (Fault area.Catalog)
+AnswersStop hive round.HiveFault answer = answer ≡ Reply (Fault (area.Hive hive))
+AnswersStop hive (round.Damaged text) answer = AnswersDamagedText hive text answer
+AnswersStop hive round.Memory answer = answer ≡ Reply Memory
+
+-- what a round of this hive answered
+abbrev pub AnswersRound : HiveName → Result RoundOut RoundErr → Answer → Type 0
+AnswersRound hive (Ok (out.Done n)) answer = answer ≡ Reply (Done hive n)
+AnswersRound hive (Ok (out.Idle n)) answer = answer ≡ Reply (Idle hive n)
+AnswersRound hive (Err error) answer = AnswersStop hive error answer

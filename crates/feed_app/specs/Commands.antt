@@ -4,9 +4,9 @@ use Rattle.std.specs.Str.{bytes_eq}
 use Rattle.std.specs.declared.alloc.Global.{Global}
 use Rattle.admin_wire.specs.declared.names.NameKind.{NameKind}
 use Rattle.admin_wire.specs.declared.names.NameKind.TheVariants.{Unlist, Relist, Delete}
-use Rattle.feed_paths.specs.Hives.{hive_of}
-use Rattle.feed_paths.specs.declared.hives.ServedHive.{ServedHive}
+use Rattle.fold_core.specs.declared.hive.HiveName.{HiveName}
 use Rattle.feed_app.specs.Bases.{is_base}
+use Rattle.feed_app.specs.Hives.{hive_by_word}
 use Rattle.feed_app.specs.declared.words.Command as code
 use Rattle.feed_app.specs.declared.words.Command.TheVariants as code_of
 
@@ -19,7 +19,8 @@ pub data Command : Type 0 where
   Init : List ℕ → Command
   Publish : Command
   Names : NameKind → List Pair → Command
-  Job : ServedHive → Command
+  Job : HiveName → Command
+  Cursor : HiveName → Command
   Get : List ℕ → Command
 
 -- the words by pairs, in their order; a last word that has no other behind it is left out
@@ -44,6 +45,7 @@ asked (code_of.Init base) = Init base.now
 asked code_of.Publish = Publish
 asked (code_of.Names kind words) = Names kind (pairs_of (texts words.now))
 asked (code_of.Job hive) = Job hive
+asked (code_of.Cursor hive) = Cursor hive
 asked (code_of.Get path) = Get path.now
 
 abbrev pub of_one_word : List ℕ → Option Command
@@ -52,7 +54,8 @@ of_one_word word = if bytes_eq word (codes "publish") then Some Publish else Non
 abbrev pub of_two_words : List ℕ → List ℕ → Option Command
 of_two_words word object =
     if bytes_eq word (codes "init") && is_base object then Some (Init object) else
-    if bytes_eq word (codes "job") then option_map Job (hive_of object) else
+    if bytes_eq word (codes "job") then option_map Job (hive_by_word object) else
+    if bytes_eq word (codes "cursor") then option_map Cursor (hive_by_word object) else
     if bytes_eq word (codes "get") then Some (Get object) else
     None
 

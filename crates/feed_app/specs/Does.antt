@@ -1,8 +1,9 @@
 -- What a command does.
 use Rattle.std.specs.Prelude.{◌≡◌, Option, None, Some}
-use Rattle.feed_app.specs.Commands.{Command, Init, Get, Publish, Names, Job}
+use Rattle.feed_app.specs.Commands.{Command, Init, Get, Publish, Names, Job, Cursor}
 use Rattle.feed_app.specs.Frame.{Meaning, IsDone, Reach, nothing}
 use Rattle.feed_app.specs.Outside.{Members, Sight}
+use Rattle.feed_app.specs.Cursors.{cursor_meaning}
 use Rattle.feed_app.specs.Gets.{get_meaning}
 use Rattle.feed_app.specs.Inits.{init_meaning}
 use Rattle.feed_app.specs.Jobs.{job_meaning}
@@ -16,6 +17,7 @@ meaning m (Init base) = init_meaning m base
 meaning m Publish = publish_meaning m
 meaning m (Names kind pairs) = names_meaning m kind pairs
 meaning m (Job hive) = job_meaning m hive
+meaning m (Cursor hive) = cursor_meaning m hive
 meaning m (Get path) = get_meaning m path
 
 -- what words of this meaning may touch

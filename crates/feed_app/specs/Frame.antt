@@ -1,13 +1,14 @@
 -- What a command may touch, and why an answer comes: said once for all commands.
-use Rattle.std.specs.Prelude.{◌≡◌, ◌<◌, length, IfSome, ℕ, ⊤}
-use Rattle.blob_store.specs.Seen.{Seen}
+use Rattle.std.specs.Prelude.{◌≡◌, ◌⊎◌, ◌<◌, length, IfSome, ℕ, List, ⊤}
 use Rattle.catalog_core.specs.declared.stores.Stores.{Stores}
 use Rattle.admin_wire.specs.declared.area.AreaName.{AreaName}
 use Rattle.admin_wire.specs.declared.area.AreaName.TheVariants as area
 use Rattle.admin_wire.specs.declared.line.Line.TheVariants as line
+use Rattle.fold_core.specs.declared.hive.HiveName.{HiveName}
 use Rattle.fold_core.specs.declared.hive.HiveName.TheVariants as hives
+use Rattle.feed_app.specs.Damages.{IsLostOfHive, IsUnread}
 use Rattle.feed_app.specs.Outside.{Members, Sight, Rose, AreaRose, area_of, held}
-use Rattle.feed_app.specs.Spelled.{ForSpelled, StaysSpelled}
+use Rattle.feed_app.specs.Spelled.{ForSpelled, IsSpelled, StaysSpelled}
 use Rattle.feed_app.specs.declared.answer.Answer.{Answer}
 use Rattle.feed_app.specs.declared.answer.Answer.TheVariants.{Reply, Usage}
 
@@ -70,17 +71,30 @@ KeepsValue Asks old new = ⊤
 KeepsValue Opens old new = ⊤
 KeepsValue Changes old new = ⊤
 
--- the area spells no catalog
-abbrev pub IsLost : AreaName → Seen → Type 0
-IsLost area.Catalog s = ForSpelled s (λ base cs. ⊥)
-IsLost _ s = ⊥
+-- the area of a hive may be changed
+abbrev pub ChangesHive : Reach → Type 0
+ChangesHive reach = (hive : HiveName) × (touch_of reach (area.Hive hive) ≡ Changes)
+
+-- Why a blob of this name is told as damaged. The catalog's area spells no catalog, or hasn't got what a job would read; or the
+-- hive's area has no cursor under the name, or no state.
+abbrev pub IsLost : {B : Type 0} → Members B → Reach → (before after : Stores B) → AreaName → List ℕ → Type 0
+IsLost m reach before after area.Catalog blob =
+    ForSpelled (m.seen before.catalog) (λ base cs. ⊥) ⊎ (ChangesHive reach × IsUnread (held m before.catalog) blob)
+IsLost m reach before after (area.Hive hive) blob =
+    IsLostOfHive (IsSpelled (m.seen before.catalog)) (held m (area_of after (area.Hive hive))) blob
+
+-- it is so of some blob of an area within reach
+abbrev pub HasLost : {B : Type 0} → Members B → Reach → (before after : Stores B) → Type 0
+HasLost m reach before after =
+    (name : AreaName) × (blob : List ℕ) × Touches (touch_of reach name) × IsLost m reach before after name blob
 
 -- why an answer of this kind came; no command answers a line that a server alone tells
 abbrev pub Explains : {B : Type 0} → Members B → Reach → Sight B → Answer → Sight B → Type 0
 Explains m reach before Usage after = ⊥
 Explains m reach before (Reply (line.Fault name)) after = Touches (touch_of reach name) × AreaRose m (area_of before.stores name) (area_of after.stores name)
 Explains m reach before (Reply line.FaultInput) after = Touches reach.input × Rose before.input after.input
-Explains m reach before (Reply (line.Damaged name blob)) after = Touches (touch_of reach name) × IsLost name (m.seen (area_of before.stores name))
+Explains m reach before (Reply (line.Damaged name blob)) after =
+    Touches (touch_of reach name) × IsLost m reach before.stores after.stores name blob
 Explains m reach before (Reply line.TooLong) after = Touches reach.input × IfSome before.input.told (λ body. most_input < length body)
 Explains m reach before (Reply (line.Left hive name)) after = ⊥
 Explains m reach before (Reply line.Stopping) after = ⊥

@@ -1,8 +1,12 @@
 -- The hives of the program: where each stands, and what it makes of a catalog.
-use Rattle.std.specs.Prelude.{◌≡◌}
+use Rattle.std.specs.Prelude.{◌≡◌, ℕ, List, Option, Some, None, if◌then◌else◌}
+use Rattle.std.specs.Str.{bytes_eq}
+use Rattle.admin_wire.specs.Lines.{hive_text}
+use Rattle.auto_docs.specs.Documents.{auto_docs, keeps_listed}
 use Rattle.catalog_core.specs.declared.stores.Stores.{Stores}
 use Rattle.fold_core.specs.Docs.{Makes}
 use Rattle.fold_core.specs.Entries.{Keeps}
+use Rattle.fold_core.specs.Folds.{Fold, fold_of}
 use Rattle.flat_container.specs.Documents.{content_docs, keeps_all}
 use Rattle.reg_docs.specs.Documents.{registration_docs}
 use Rattle.reg_docs.specs.Entries.{keeps_every, keeps_plain}
@@ -24,18 +28,6 @@ hive_name Content = hives.Content
 abbrev pub hive_area : ServedHive → AreaName
 hive_area hive = area.Hive (hive_name hive)
 
--- which details a hive keeps
-abbrev pub keeps_in : ServedHive → Keeps
-keeps_in Plain = keeps_plain
-keeps_in SemVer2 = keeps_every
-keeps_in Content = keeps_all
-
--- which documents it makes
-abbrev pub makes_in : ServedHive → Makes
-makes_in Plain = registration_docs registration.Plain
-makes_in SemVer2 = registration_docs registration.SemVer2
-makes_in Content = content_docs
-
 -- one of three, by the hive
 abbrev pub by_hive : {A : Type 0} → A → A → A → ServedHive → A
 by_hive plain semver2 content Plain = plain
@@ -53,3 +45,34 @@ KeepsAll old new = (hive : ServedHive) → new hive ≡ old hive
 -- that of every hive but this one is
 abbrev pub KeepsOthers : {B : Type 0} → ServedHive → (ServedHive → B) → (ServedHive → B) → Type 0
 KeepsOthers hive old new = (other : ServedHive) → (other ≡ hive → ⊥) → new other ≡ old other
+
+-- the hive with this word
+abbrev pub hive_by_word : List ℕ → Option HiveName
+hive_by_word word =
+    if bytes_eq word (hive_text hives.Plain) then Some hives.Plain else
+    if bytes_eq word (hive_text hives.SemVer2) then Some hives.SemVer2 else
+    if bytes_eq word (hive_text hives.Content) then Some hives.Content else
+    if bytes_eq word (hive_text hives.Auto) then Some hives.Auto else
+    None
+
+-- which details a hive keeps
+abbrev pub keeps_in : HiveName → Keeps
+keeps_in hives.Plain = keeps_plain
+keeps_in hives.SemVer2 = keeps_every
+keeps_in hives.Content = keeps_all
+keeps_in hives.Auto = keeps_listed
+
+-- which documents it makes
+abbrev pub makes_in : HiveName → Makes
+makes_in hives.Plain = registration_docs registration.Plain
+makes_in hives.SemVer2 = registration_docs registration.SemVer2
+makes_in hives.Content = content_docs
+makes_in hives.Auto = auto_docs
+
+-- the hive below a base address
+abbrev pub hive_fold : HiveName → List ℕ → Fold
+hive_fold hive base = fold_of (keeps_in hive) (makes_in hive) base
+
+-- what each hive but this one has is the same value
+abbrev pub KeepsBut : {A : Type 0} → HiveName → (HiveName → A) → (HiveName → A) → Type 0
+KeepsBut hive old new = (other : HiveName) → (other ≡ hive → ⊥) → new other ≡ old other

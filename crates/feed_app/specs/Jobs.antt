@@ -1,77 +1,77 @@
 -- The command `job`.
-use Rattle.std.specs.Prelude.{◌≡◌, ◌⊎◌, ◌<◌, ℕ, List, [], length, Option, Some, None, IfSome, IsSome}
+use Rattle.std.specs.Prelude.{◌≡◌, ◌⊎◌, ◌<◌, ℕ, List, length, IfOk, IfSome, Result}
+use Rattle.std.specs.declared.result.Result.TheVariants.{Ok, Err}
 use Rattle.std.specs.FinMap.{get}
-use Rattle.blob_store.specs.Area.{Area}
 use Rattle.blob_store.specs.Seen.{Seen}
 use Rattle.pkg_meta.specs.Catalog.{Catalog}
-use Rattle.catalog_doc.specs.Names.{leaf_name}
+use Rattle.catalog_core.specs.Opened.{IsOpenFor, Opened}
 use Rattle.cursor_doc.specs.Cursor.{cursor_name}
-use Rattle.fold_core.specs.Docs.{Makes}
-use Rattle.fold_core.specs.Entries.{Keeps}
-use Rattle.job_round.specs.Puts.{HasRun, HasRunSome, IsStagedName}
-use Rattle.job_round.specs.Round.{IsSettledOver, round_puts}
-use Rattle.feed_paths.specs.declared.hives.ServedHive.{ServedHive}
-use Rattle.feed_paths.specs.declared.hives.ServedHive.TheVariants.{Plain, SemVer2, Content}
+use Rattle.fold_core.specs.Folds.{Fold}
+use Rattle.fold_core.specs.declared.hive.HiveName.{HiveName}
+use Rattle.fold_core.specs.declared.hive.HiveName.TheVariants.{Plain, SemVer2, Content, Auto}
+use Rattle.id_pass.specs.declared.error.RoundErr.{RoundErr}
+use Rattle.id_pass.specs.declared.error.RoundErr.TheVariants as stop
+use Rattle.id_pass.specs.declared.error.RoundOut.{RoundOut}
+use Rattle.id_pass.specs.declared.error.RoundOut.TheVariants as out
+use Rattle.job_round.specs.Answers.{IfDone, IfIdle, number_of}
+use Rattle.job_round.specs.Cursors.{IsCursor}
+use Rattle.job_round.specs.Rounds.{Rounds}
 use Rattle.admin_wire.specs.declared.area.AreaName.TheVariants as area
 use Rattle.admin_wire.specs.declared.line.Line.TheVariants as line
-use Rattle.admin_wire.specs.declared.line.Refusal.TheVariants as refusal
+use Rattle.feed_app.specs.Damages.{IsLostOfHive, IsUnread}
 use Rattle.feed_app.specs.Frame.{Meaning, Reach, Changes, Opens, nothing}
-use Rattle.feed_app.specs.Hives.{hive_area, hive_name, hive_stores, keeps_in, makes_in}
+use Rattle.feed_app.specs.Hives.{hive_fold}
 use Rattle.feed_app.specs.Openings.{NotOpened}
-use Rattle.feed_app.specs.Outside.{Members, Shows, held}
-use Rattle.feed_app.specs.Spelled.{ForEach, HasCatalog, HoldsCatalog, Of}
+use Rattle.feed_app.specs.Outside.{Members, area_of}
+use Rattle.feed_app.specs.Spelled.{IsOpenOver, IsSpelled}
 use Rattle.feed_app.specs.declared.answer.Answer.{Answer}
 use Rattle.feed_app.specs.declared.answer.Answer.TheVariants.{Reply}
 
--- a name that a job tells as damaged, behind the opening: that of a leaf, or of a publish's file that the catalog's area doesn't hold
-abbrev pub IsUnread : Option Area → List ℕ → Type 0
-IsUnread catalog name = (m : Area) → catalog ≡ Some m → ((number place : ℕ) × (name ≡ leaf_name number place)) ⊎ (IsStagedName name × (get m name ≡ None))
+-- A round of the hive made of its calls what the result tells, of each catalog that may be meant. The number told is that of the
+-- commits; where it was done the cursor found was below that, and else at it, and the area is as it was.
+pub record RoundMade (f : Fold) (Is : Catalog → Type 0) (old new : Seen) (result : Result RoundOut RoundErr) : Type 0 where
+  pub runs : Rounds f Is old new result
+  pub number : (cs : Catalog) → Is cs → IfOk result (λ told. number_of told ≡ length cs)
+  pub behind : (cs : Catalog) → Is cs
+      → IfOk result (λ told. IfDone told (λ n. IfSome old.held (λ m. (c : ℕ) × IsCursor (get m cursor_name) c × (c < n))))
+  pub idle : IfOk result (λ told. IfIdle told (λ n. (new.held ≡ old.held) × IfSome old.held (λ m. IsCursor (get m cursor_name) n)))
 
--- the hive's area has no cursor
-abbrev pub IsFresh : Option Area → Type 0
-IsFresh area = IfSome area (λ blobs. get blobs cursor_name ≡ None)
+-- what is answered of a round that was made so, by what is damaged in the catalog's area and in the hive's
+abbrev pub RoundTold : (Result RoundOut RoundErr → Type 0) → (in_catalog in_hive : List ℕ → Type 0) → HiveName → Answer → Type 0
+RoundTold Made in_catalog in_hive hive (Reply (line.Done which n)) = (which ≡ hive) × Made (Ok (out.Done n))
+RoundTold Made in_catalog in_hive hive (Reply (line.Idle which n)) = (which ≡ hive) × Made (Ok (out.Idle n))
+RoundTold Made in_catalog in_hive hive (Reply (line.Fault area.Catalog)) = Made (Err stop.CatalogFault)
+RoundTold Made in_catalog in_hive hive (Reply (line.Fault (area.Hive which))) = (which ≡ hive) × Made (Err stop.HiveFault)
+RoundTold Made in_catalog in_hive hive (Reply (line.Damaged area.Catalog name)) = in_catalog name × ((text : List ℕ) × Made (Err (stop.Damaged text)))
+RoundTold Made in_catalog in_hive hive (Reply (line.Damaged (area.Hive which) name)) =
+    (which ≡ hive) × in_hive name × ((text : List ℕ) × Made (Err (stop.Damaged text)))
+RoundTold Made in_catalog in_hive hive (Reply line.Memory) = Made (Err stop.Memory) ⊎ ((text : List ℕ) × Made (Err (stop.Damaged text)))
+RoundTold Made in_catalog in_hive hive _ = ⊥
 
-module _ (keeps : Keeps) (makes : Makes) where
-  -- all puts were made: the area holds the documents and the cursor, and at other names what it held
-  abbrev pub IsBuilt : List ℕ → Catalog → Option Area → Option Area → Type 0
-  IsBuilt base cs old new = HasRun (round_puts keeps makes base cs) old new
-      × IfSome old (λ blobs. (left : Area) × (new ≡ Some left) × IsSettledOver keeps makes base cs blobs left)
+-- a round of the hive was made so over a catalog that was opened of the store
+abbrev pub MadeOver : {B : Type 0} → Members B → HiveName → (catalog old new : Seen) → Result RoundOut RoundErr → Type 0
+MadeOver {B} m hive catalog old new result = (o : Opened B) × IsOpenOver catalog o (m.seen o.area)
+    × RoundMade (hive_fold hive o.base) (IsOpenFor o (m.seen o.area)) old new result
 
-  -- some of them were made, from the first
-  abbrev pub IsPartlyBuilt : List ℕ → Catalog → Option Area → Option Area → Type 0
-  IsPartlyBuilt base cs old new = HasRunSome (round_puts keeps makes base cs) old new
-
-  module _ (hive : ServedHive) where
-    -- what is answered of an open catalog: of each catalog of this kind, by what may be told as damaged, and by the hive's area
-    abbrev pub Builds : Answer → (List ℕ → Type 0) → Of → Option Area → Option Area → Type 0
-    Builds (Reply (line.Done which n)) Damages Is old new =
-        (which ≡ hive_name hive) × IsFresh old × ForEach Is (λ base cs. (n ≡ length cs) × (0 < n) × IsBuilt base cs old new)
-    Builds (Reply (line.Idle which n)) Damages Is old new =
-        (which ≡ hive_name hive) × IsFresh old × (n ≡ 0) × ForEach Is (λ base cs. cs ≡ []) × (new ≡ old)
-    Builds (Reply (line.Refused refusal.Unsupported)) Damages Is old new = IfSome old (λ blobs. IsSome (get blobs cursor_name)) × (new ≡ old)
-    Builds (Reply (line.Damaged area.Catalog name)) Damages Is old new = Damages name × ForEach Is (λ base cs. ⊥)
-    Builds (Reply (line.Fault name)) Damages Is old new =
-        ((name ≡ area.Catalog) ⊎ (name ≡ hive_area hive)) × ForEach Is (λ base cs. IsPartlyBuilt base cs old new)
-    Builds (Reply line.Memory) Damages Is old new = ForEach Is (λ base cs. IsPartlyBuilt base cs old new)
-    Builds _ Damages Is old new = ⊥
-
-    -- what a job answers: of an area that opens no catalog, or of one that is open
-    abbrev pub Jobs : Answer → Seen → Type 0 → Option Area → Option Area → Type 0
-    Jobs answer catalog untouched old new = (NotOpened answer catalog × untouched) ⊎ Builds answer (IsUnread catalog.held) (HasCatalog catalog) old new
+-- what a job answers: of an area that opens no catalog, or of one that is open
+abbrev pub Jobs : {B : Type 0} → Members B → HiveName → Answer → Seen → Type 0 → (old new : Seen) → Type 0
+Jobs m hive answer catalog untouched old new = (NotOpened answer catalog × untouched)
+    ⊎ RoundTold (MadeOver m hive catalog old new) (IsUnread catalog.held) (IsLostOfHive (IsSpelled catalog) new.held) hive answer
 
 -- it opens the catalog and changes the hive's area
-abbrev pub job_reach : ServedHive → Reach
+abbrev pub job_reach : HiveName → Reach
 job_reach Plain = record nothing { catalog = Opens; plain = Changes }
 job_reach SemVer2 = record nothing { catalog = Opens; semver2 = Changes }
 job_reach Content = record nothing { catalog = Opens; content = Changes }
+job_reach Auto = record nothing { catalog = Opens; auto = Changes }
 
--- it is done where the one area spells a catalog and the other has no cursor
-abbrev pub job_meaning : {B : Type 0} → Members B → ServedHive → Meaning B
+-- when a job can't but be done isn't said
+abbrev pub job_meaning : {B : Type 0} → Members B → HiveName → Meaning B
 job_meaning m hive = record {
   reach = job_reach hive;
-  ready = λ before. Shows (held m before.stores.catalog) HoldsCatalog × Shows (held m (hive_stores before.stores hive)) (λ blobs. get blobs cursor_name ≡ None);
+  ready = λ before. ⊥;
   acts = λ before answer after.
-      let old = hive_stores before.stores hive in
-      let new = hive_stores after.stores hive in
-      Jobs (keeps_in hive) (makes_in hive) hive answer (m.seen before.stores.catalog) (new ≡ old) (held m old) (held m new);
+      let old = area_of before.stores (area.Hive hive) in
+      let new = area_of after.stores (area.Hive hive) in
+      Jobs m hive answer (m.seen before.stores.catalog) (new ≡ old) (m.seen old) (m.seen new);
 }

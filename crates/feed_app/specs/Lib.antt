@@ -3,6 +3,8 @@ pub mod Answers
 pub mod Bases
 pub mod Causes
 pub mod Commands
+pub mod Cursors
+pub mod Damages
 pub mod Does
 pub mod Frame
 pub mod Gets

@@ -7,6 +7,7 @@ use Rattle.feed_base.specs.Counts.{HasRisen}
 use Rattle.feed_base.specs.declared.outside as bound
 use Rattle.admin_wire.specs.declared.area.AreaName.{AreaName}
 use Rattle.admin_wire.specs.declared.area.AreaName.TheVariants.{Catalog, Hive}
+use Rattle.fold_core.specs.declared.hive.HiveName.{HiveName}
 use Rattle.fold_core.specs.declared.hive.HiveName.TheVariants as hives
 
 -- what is told of a store
@@ -21,13 +22,17 @@ held m area = (m.seen area).held
 abbrev pub AreaRose : {B : Type 0} → Members B → B → B → Type 0
 AreaRose m old new = HasRisen (m.seen old).faults (m.seen new).faults
 
+-- one of four, by the hive
+abbrev pub by_hive_name : {A : Type 0} → A → A → A → A → HiveName → A
+by_hive_name plain semver2 content auto hives.Plain = plain
+by_hive_name plain semver2 content auto hives.SemVer2 = semver2
+by_hive_name plain semver2 content auto hives.Content = content
+by_hive_name plain semver2 content auto hives.Auto = auto
+
 -- an area by its name
 abbrev pub area_of : {B : Type 0} → Stores B → AreaName → B
 area_of stores Catalog = stores.catalog
-area_of stores (Hive hives.Plain) = stores.plain
-area_of stores (Hive hives.SemVer2) = stores.semver2
-area_of stores (Hive hives.Content) = stores.content
-area_of stores (Hive hives.Auto) = stores.auto
+area_of stores (Hive hive) = by_hive_name stores.plain stores.semver2 stores.content stores.auto hive
 
 -- the bytes that are told of an input or an output, and how many of its calls have failed
 pub record Stream : Type 0 where

@@ -30,6 +30,10 @@ pub record StaysSpelled (old new : Seen) : Type 0 where
   pub mended : IsMended old.held new.held
   pub spelled : ForSpelled old (λ base cs. HasCatalog new base cs × KeepsSpelling old new base cs)
 
+-- the store's area spells it, below some base address
+abbrev pub IsSpelled : Seen → Catalog → Type 0
+IsSpelled s cs = (base : List ℕ) × HasCatalog s base cs
+
 -- the area spells a catalog
 abbrev pub HoldsCatalog : Area → Type 0
 HoldsCatalog m = (base : List ℕ) × (cs : Catalog) × IsCatalog cs × SpellsCatalog m base cs

@@ -1,4 +1,4 @@
-// Cutting bytes at a mark, and at a prefix or a suffix.
+// Cutting bytes at a mark, and at a prefix or a suffix, and texts at a slash.
 ghost use Rattle.std.specs.Prelude.{◌≡◌, ◌==◌, ◌∷◌, ◌++◌, ℕ, List, IfSome, MatchOption};
 ghost use Rattle.std.specs.List.{position};
 ghost use Rattle.feed_paths.specs.Cuts.{IsFree};
@@ -44,4 +44,12 @@ pub(crate) fn before<'a>(bytes: &'a [u8], suffix: &[u8]) -> Option<&'a [u8]>
         (λ front. bytes.now ≡ front.now ++ suffix.now) }
 {
     bytes.strip_suffix(suffix)
+}
+
+// What stands before and behind the first slash.
+pub(crate) fn at_slash(text: &str) -> Option<(&str, &str)>
+    ensures { (front back : List ℕ) → IsFree 47 front → text.now ≡ front ++ (47 ∷ back)
+        → MatchOption result ⊥ (λ p. (p.0.now ≡ front) × (p.1.now ≡ back)) }
+{
+    text.split_once('/')
 }

@@ -1,6 +1,6 @@
-// The hives as reply lines name them.
+// The names of the hives.
 ghost use Rattle.std.specs.Prelude.{◌≡◌};
-ghost use Rattle.feed_app.specs.Hives.{hive_name};
+ghost use Rattle.feed_app.specs.Hives.{hive_name, hive_by_word};
 
 use feed_paths::ServedHive;
 use fold_core::HiveName;
@@ -13,5 +13,18 @@ pub(crate) fn hive_name(hive: ServedHive) -> HiveName
         ServedHive::Plain => HiveName::Plain,
         ServedHive::SemVer2 => HiveName::SemVer2,
         ServedHive::Content => HiveName::Content,
+    }
+}
+
+/// The hive with this word.
+pub(crate) fn hive_by_word(word: &str) -> Option<HiveName>
+    ensures { result ≡ hive_by_word word.now }
+{
+    match word {
+        "plain" => Some(HiveName::Plain),
+        "semver2" => Some(HiveName::SemVer2),
+        "content" => Some(HiveName::Content),
+        "auto" => Some(HiveName::Auto),
+        _ => None,
     }
 }

@@ -3,7 +3,7 @@ ghost use Rattle.std.specs.Prelude.{◌≡◌, ◌⊎◌, ◌<◌, length, None,
 ghost use Rattle.admin_wire.specs.declared.area.AreaName.{AreaName};
 ghost use Rattle.feed_app.specs.Commands.{Command, command_of};
 ghost use Rattle.feed_app.specs.Does.{meaning, reach_of};
-ghost use Rattle.feed_app.specs.Frame.{IsLost, KeepsAreas, KeepsValue, Touches, most_input};
+ghost use Rattle.feed_app.specs.Frame.{HasLost, KeepsAreas, KeepsValue, Touches, most_input};
 ghost use Rattle.feed_app.specs.Outside.{AreaRose, Rose, area_of, bounds, input_of, output_of};
 ghost use Rattle.feed_app.specs.Runs.{CanBeDone, ForRuns, IsGood, IsQuiet, IsTouchedBy};
 
@@ -20,7 +20,8 @@ pub fn answers_usage<B: Blobs, I: Source, O: Sink, C: Clock>()
 {}
 
 /// Status 3 comes only for words with a meaning, 4 only where the count of an area that the command touches rose, 5 only
-/// where that of the input or the output did, 6 only where the command touches the catalog's area, and that spells no catalog,
+/// where that of the input or the output did, 6 only where the command touches an area that hasn't got a blob
+/// as it is to be: the catalog's spells no catalog, or has nothing that a job would read, or the hive's has no cursor or no state;
 /// and 7 only for a command that reads the input, where that is too long.
 pub fn explains_statuses<B: Blobs, I: Source, O: Sink, C: Clock>()
     ensures refused { ForRuns (bounds B.Blobs I.Source O.Sink C.Clock) (λ words before status after. status ≡ 3
@@ -31,7 +32,7 @@ pub fn explains_statuses<B: Blobs, I: Source, O: Sink, C: Clock>()
         → Rose (input_of b.source before.input) (input_of b.source after.input)
         ⊎ Rose (output_of b.sink before.output) (output_of b.sink after.output)) }
     ensures damaged { let b = bounds B.Blobs I.Source O.Sink C.Clock in ForRuns b (λ words before status after. status ≡ 6
-        → (name : AreaName) × IsTouchedBy b.blobs words name × IsLost name (b.blobs.seen (area_of before.stores name))) }
+        → (command : Command) × (command_of words ≡ Some command) × HasLost b.blobs (meaning b.blobs command).reach before.stores after.stores) }
     ensures too_long { let b = bounds B.Blobs I.Source O.Sink C.Clock in ForRuns b (λ words before status after. status ≡ 7
         → (command : Command) × (command_of words ≡ Some command) × Touches (meaning b.blobs command).reach.input
         × IfSome (b.source.left before.input) (λ body. most_input < length body)) }

@@ -7,6 +7,7 @@ mod base;
 mod causes;
 mod commit_laws;
 mod committing;
+mod cursor;
 mod cut;
 mod get;
 mod get_laws;

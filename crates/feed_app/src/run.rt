@@ -8,6 +8,7 @@ ghost use Rattle.feed_app.specs.Runs.{RunsCommand};
 ghost use Rattle.feed_app.specs.Writes.{WritesAnswer};
 
 use crate::answer::Answer;
+use crate::cursor::cursor;
 use crate::get::get;
 use crate::init::init;
 use crate::job::job;
@@ -38,6 +39,7 @@ fn act<B: Blobs, I: Source, C: Clock>(
         Some(Command::Publish) => publish(alloc, stores, input, clock),
         Some(Command::Names(kind, words)) => commit_names(alloc, stores, kind, words, clock),
         Some(Command::Job(hive)) => job(alloc, stores, hive),
+        Some(Command::Cursor(hive)) => cursor(alloc, stores, hive),
         Some(Command::Get(path)) => get(alloc, stores, path),
     }
 }
@@ -59,9 +61,9 @@ fn write_answer<O: Sink>(alloc: Global, answer: Answer, output: &mut O) -> Statu
 /// Does what the words of a command say, on the stores and streams that are handed in, and writes the text of its
 /// answer. It knows `init` with a base address, which makes the catalog of no commits, `publish`, which commits the
 /// publishes that the input holds, `unlist`, `list` and `delete` with pairs of an id and a version, which commit that of
-/// these versions, `job` with `plain`, `semver2` or `content`, which builds that hive in an area without a
-/// cursor, and `get` with a path, which writes the bytes of the document that the path names, one of the catalog's or of
-/// one of these hives.
+/// these versions, `job` with `plain`, `semver2`, `content` or `auto`, which makes one round of that hive, `cursor` with one
+/// of these, which tells the number of the hive's cursor, and `get` with a path, which writes the bytes of the document that
+/// the path names, one of the catalog's or of one of the hives but `auto`.
 ///
 /// A command opens the catalog before it looks at a path or at another area. A path is cut at its first `?` and isn't
 /// decoded.

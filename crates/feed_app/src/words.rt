@@ -3,8 +3,9 @@ ghost use Rattle.std.specs.Prelude.{◌≡◌, ◌≢◌, ◌≤◌, ◌∷◌, 
 ghost use Rattle.feed_app.specs.Commands.{command_of, name_kind, of_one_word, of_two_words, of_more_words, asked, texts};
 
 use crate::base::is_base;
+use crate::hives::hive_by_word;
 use admin_wire::NameKind;
-use feed_paths::ServedHive;
+use fold_core::HiveName;
 
 /// What the words of a command ask for.
 #[derive(Clone, Copy)]
@@ -15,8 +16,10 @@ pub enum Command<'a> {
     Publish,
     /// Commit what is asked for the versions that these words name, by pairs of an id and a version.
     Names(NameKind, &'a [String]),
-    /// Build this hive.
-    Job(ServedHive),
+    /// Make a round of this hive.
+    Job(HiveName),
+    /// Tell the number of this hive's cursor.
+    Cursor(HiveName),
     /// Give the document that this path names.
     Get(&'a str),
 }
@@ -59,7 +62,8 @@ fn meaning_of_two<'a>(word: &str, object: &'a str) -> Option<Command<'a>>
 {
     match word {
         "init" if is_base(object) => Some(Command::Init(object)),
-        "job" => Some(Command::Job(ServedHive::of_word(object)?)),
+        "job" => Some(Command::Job(hive_by_word(object)?)),
+        "cursor" => Some(Command::Cursor(hive_by_word(object)?)),
         "get" => Some(Command::Get(object)),
         _ => None,
     }

@@ -2,7 +2,7 @@ use Rattle.std.proofs.Common.{inl, inr, refl, sym, subst}
 use Rattle.feed_base.specs.Counts.{HasRisen}
 use Rattle.feed_paths.specs.Paths.{without_query}
 use Rattle.feed_paths.specs.declared.hives.ServedHive.TheVariants as the
-use Rattle.feed_app.specs.Hives.{hive_stores}
+use Rattle.feed_app.specs.Hives.{hive_name, hive_stores}
 use Rattle.feed_app.specs.Openings.{NotOpened}
 use Rattle.feed_app.specs.Outside.{over}
 use Rattle.feed_app.specs.Spelled.{HasCatalog, IsOpenAs, StaysSpelled}
@@ -64,6 +64,6 @@ returns-in-Err g c = λ input clock.
       explains = explains g.B.Blobs c.args.path.now (over c.args.stores input clock) (over left input clock) c.of_opening.result (hive_stores c.args.stores)
           (hive_stores left)
           (closed_rose c.in-Err.error s now c.of_opening.result c.of_opening.ensures c.in-Err.ensures.mends_refused)
-          (λ hive. not_of_hive c.of_opening.result s hive closed) is;
+          (λ hive. not_of_hive c.of_opening.result s (hive_name hive) closed) is;
       acts = is;
     }

@@ -1,24 +1,32 @@
-use Rattle.std.proofs.Common.{Err, List, ℕ, ap, subst}
-use Rattle.feed_app.specs.Jobs.{IsBuilt, IsPartlyBuilt}
-use Rattle.feed_app.proofs.Jobs.{stopped}
+use Rattle.catalog_core.specs.Opened.{IsOpenFor}
+use Rattle.fold_core.specs.Folds.{fold_of}
+use Rattle.job_round.specs.Answers.{IsLostInCatalog, IsLostInHive}
+use Rattle.feed_app.specs.Jobs.{RoundMade}
+use Rattle.feed_app.proofs.Jobs.{of_catalog, of_hive, rose_by, round_answers, stays_as, told_of_catalog}
 use Rattle.feed_app.proofs.job.job_in.Goals as goal
 
-pub returns-in-Ok-Done-clause-is : goal.returns-in-Ok-Done-clause-is
-returns-in-Ok-Done-clause-is g c =
-    let old = (g.B.Blobs.seen c.args.area.now).held in
-    let new = (g.B.Blobs.seen c.build_once.new.area).held in
-    let done = rw c.in-Ok-Done.field-0-is at c.in-Ok-Done.ensures.done in
-    let settled = rw c.in-Ok-Done.field-0-is at c.in-Ok-Done.ensures.settled in (
-      c.hive_name.ensures,
-      c.in-Ok-Done.ensures.fresh,
-      λ base cs are.
-          let told = done cs are.1 in
-          (told.0, told.1, subst (λ (b : List ℕ). IsBuilt g.H.Hive.keeps g.H.Hive.makes b cs old new) are.0 (told.2, settled cs are.1)),
-    )
+pub returns-clause-is : goal.returns-clause-is
+returns-clause-is g c =
+    let m = g.B.Blobs in
+    let o = c.args.catalog.now in
+    let old = m.seen c.args.area.now in
+    let new = m.seen c.run_round-result.new.area in
+    let later = c.run_round-result.new.catalog in
+    round_answers c.args.hive (RoundMade (fold_of g.H.Hive.keeps g.H.Hive.makes o.base) (IsOpenFor o (m.seen o.area)) old new)
+    (IsLostInCatalog o later (m.seen o.area) (m.seen later.area)) (IsLostInHive o (m.seen o.area) new.held)
+    c.run_round-result.result c.of_round.result c.of_round.ensures
+    (record {
+      runs = c.run_round-result.ensures.runs;
+      number = c.run_round-result.ensures.target;
+      behind = c.run_round-result.ensures.done;
+      idle = c.run_round-result.ensures.idle;
+    }) c.run_round-result.ensures.damaged
 
-pub returns-in-Err-clause-is : goal.returns-in-Err-clause-is
-returns-in-Err-clause-is g c = rw (c.of_round.ensures, c.hive_name-in-Err.ensures)
-    (stopped g.H.Hive.keeps g.H.Hive.makes c.args.hive c.in-Err.error _ _ _ _ (λ e. c.in-Err.ensures.unsupported (ap Err e)) c.in-Err.ensures.damaged
-    (λ base cs are. c.in-Err.ensures.whole cs are.1)
-    (λ base cs are. subst (λ (b : List ℕ). IsPartlyBuilt g.H.Hive.keeps g.H.Hive.makes b cs (g.B.Blobs.seen c.args.area.now).held
-    (g.B.Blobs.seen c.build_once.new.area).held) are.0 (c.in-Err.ensures.some cs are.1)))
+pub returns-clause-stays : goal.returns-clause-stays
+returns-clause-stays g c = stays_as c.args.catalog.now c.run_round-result.new.catalog _ _ _ _ c.run_round-result.ensures.stays
+    (told_of_catalog c.args.hive c.run_round-result.result c.of_round.result c.of_round.ensures)
+    (of_catalog c.args.hive c.run_round-result.result c.of_round.result c.of_round.ensures)
+
+pub returns-clause-hive_cause : goal.returns-clause-hive_cause
+returns-clause-hive_cause g c = λ is. rose_by _ _ _ c.run_round-result.ensures.counts
+    (of_hive c.args.hive c.run_round-result.result c.of_round.result c.of_round.ensures is)

@@ -1,4 +1,4 @@
-use Rattle.feed_app.proofs.Places.{but_content, but_plain, but_semver2}
+use Rattle.feed_app.proofs.OneHive.{but_auto, but_content, but_plain, but_semver2}
 use Rattle.feed_app.proofs.job.job_of.Goals as goal
 
 pub returns-in-Plain-clause-is : goal.returns-in-Plain-clause-is
@@ -8,7 +8,7 @@ pub returns-in-Plain-clause-hive_cause : goal.returns-in-Plain-clause-hive_cause
 returns-in-Plain-clause-hive_cause g c = rw c.in-Plain.is (rw c.in-Plain.is at c.job_in.ensures.hive_cause)
 
 pub returns-in-Plain-clause-others : goal.returns-in-Plain-clause-others
-returns-in-Plain-clause-others g c = rw c.in-Plain.is (but_plain c.args.plain.now c.args.semver2.now c.args.content.now c.job_in.new.area)
+returns-in-Plain-clause-others g c = rw c.in-Plain.is (but_plain c.args.plain.now c.args.semver2.now c.args.content.now c.args.auto.now c.job_in.new.area)
 
 pub returns-in-SemVer2-clause-is : goal.returns-in-SemVer2-clause-is
 returns-in-SemVer2-clause-is g c = rw c.in-SemVer2.is (rw c.in-SemVer2.is at c.job_in-in-SemVer2.ensures.is)
@@ -17,7 +17,7 @@ pub returns-in-SemVer2-clause-hive_cause : goal.returns-in-SemVer2-clause-hive_c
 returns-in-SemVer2-clause-hive_cause g c = rw c.in-SemVer2.is (rw c.in-SemVer2.is at c.job_in-in-SemVer2.ensures.hive_cause)
 
 pub returns-in-SemVer2-clause-others : goal.returns-in-SemVer2-clause-others
-returns-in-SemVer2-clause-others g c = rw c.in-SemVer2.is (but_semver2 c.args.plain.now c.args.semver2.now c.args.content.now c.job_in-in-SemVer2.new.area)
+returns-in-SemVer2-clause-others g c = rw c.in-SemVer2.is (but_semver2 c.args.plain.now c.args.semver2.now c.args.content.now c.args.auto.now c.job_in-in-SemVer2.new.area)
 
 pub returns-in-Content-clause-is : goal.returns-in-Content-clause-is
 returns-in-Content-clause-is g c = rw c.in-Content.is (rw c.in-Content.is at c.job_in-in-Content.ensures.is)
@@ -26,4 +26,13 @@ pub returns-in-Content-clause-hive_cause : goal.returns-in-Content-clause-hive_c
 returns-in-Content-clause-hive_cause g c = rw c.in-Content.is (rw c.in-Content.is at c.job_in-in-Content.ensures.hive_cause)
 
 pub returns-in-Content-clause-others : goal.returns-in-Content-clause-others
-returns-in-Content-clause-others g c = rw c.in-Content.is (but_content c.args.plain.now c.args.semver2.now c.args.content.now c.job_in-in-Content.new.area)
+returns-in-Content-clause-others g c = rw c.in-Content.is (but_content c.args.plain.now c.args.semver2.now c.args.content.now c.args.auto.now c.job_in-in-Content.new.area)
+
+pub returns-in-Auto-clause-is : goal.returns-in-Auto-clause-is
+returns-in-Auto-clause-is g c = rw c.in-Auto.is (rw c.in-Auto.is at c.job_in-in-Auto.ensures.is)
+
+pub returns-in-Auto-clause-hive_cause : goal.returns-in-Auto-clause-hive_cause
+returns-in-Auto-clause-hive_cause g c = rw c.in-Auto.is (rw c.in-Auto.is at c.job_in-in-Auto.ensures.hive_cause)
+
+pub returns-in-Auto-clause-others : goal.returns-in-Auto-clause-others
+returns-in-Auto-clause-others g c = rw c.in-Auto.is (but_auto c.args.plain.now c.args.semver2.now c.args.content.now c.args.auto.now c.job_in-in-Auto.new.area)

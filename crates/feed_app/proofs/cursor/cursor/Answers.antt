@@ -1,0 +1,50 @@
+use Rattle.std.proofs.Common.{inl, inr, refl, sym, ◌∙◌, ap, arith, subst}
+use Rattle.feed_base.specs.Counts.{HasRisen}
+use Rattle.feed_app.specs.Openings.{NotOpened}
+use Rattle.feed_app.specs.Outside.{area_of, held, over}
+use Rattle.feed_app.specs.Spelled.{StaysSpelled}
+use Rattle.feed_app.specs.declared.answer.Answer.{Answer}
+use Rattle.feed_app.proofs.Closed.{closed_by, closed_rose, not_of_hive}
+use Rattle.feed_app.proofs.Cursors.{cursor_done, tells_no_catalog}
+use Rattle.feed_app.proofs.Holding.{closed_spelled, open_over, opened_spelled}
+use Rattle.feed_app.proofs.OneHive.{cursor_keeps}
+use Rattle.feed_app.proofs.cursor.cursor.Goals as goal
+
+pub returns-in-Ok : goal.returns-in-Ok
+returns-in-Ok g c = λ input clock.
+    let m = g.B.Blobs in
+    let hive = c.args.hive in
+    let s = m.seen c.args.stores.catalog in
+    let o = c.in-Ok.catalog in
+    let now = m.seen o.area in
+    let left = record c.args.stores {
+      catalog = c.into_area.result;
+      plain = c.cursor_among-answer.new.plain;
+      semver2 = c.cursor_among-answer.new.semver2;
+      content = c.cursor_among-answer.new.content;
+      auto = c.cursor_among-answer.new.auto;
+    } in
+    let opened = open_over s now o _ c.in-Ok.ensures.opened in
+    let spelled = opened_spelled s now o c.in-Ok.ensures.mends.area opened c.in-Ok.ensures.moments in
+    cursor_done m hive (over c.args.stores input clock) (over left input clock) c.cursor_among-answer.result
+    (cursor_keeps m c.args.stores left (subst (λ x. StaysSpelled s (m.seen x)) (sym c.into_area.ensures) spelled) hive
+    c.cursor_among-answer.ensures.others c.cursor_among-answer.ensures.same)
+    c.cursor_among-answer.ensures.same
+    (λ e. absurd (tells_no_catalog hive _ c.cursor_among-answer.result c.cursor_among-answer.ensures.is e))
+    c.cursor_among-answer.ensures.hive_cause
+    (inr c.cursor_among-answer.ensures.is)
+
+pub returns-in-Err : goal.returns-in-Err
+returns-in-Err g c = λ input clock.
+    let m = g.B.Blobs in
+    let hive = c.args.hive in
+    let s = m.seen c.args.stores.catalog in
+    let now = m.seen c.in-Err.area in
+    let left = record c.args.stores { catalog = c.in-Err.area } in
+    let closed = subst (λ (a : Answer). NotOpened a s) (sym c.of_opening.ensures)
+    (closed_by c.in-Err.error s _ c.in-Err.ensures.missing c.in-Err.ensures.damaged c.in-Err.ensures.refused) in
+    cursor_done m hive (over c.args.stores input clock) (over left input clock) c.of_opening.result
+    (cursor_keeps m c.args.stores left (closed_spelled s now _ _ c.in-Err.ensures.mends_refused c.in-Err.ensures.refused c.in-Err.ensures.moments_refused)
+    hive (λ other not. refl) refl) refl
+    (closed_rose c.in-Err.error s now c.of_opening.result c.of_opening.ensures c.in-Err.ensures.mends_refused) (not_of_hive c.of_opening.result s hive closed)
+    (inl (closed, refl))
