@@ -1,5 +1,6 @@
 -- The ids that a round takes up are those with an item behind the cursor.
-use Rattle.std.proofs.Common.{◌≡◌, ◌⊎◌, inl, inr, ⊎_elim, ◌<◌, ◌+◌, ℕ, zero, suc, List, [], ◌∷◌, ◌++◌, length, map, Bool, true, false, cond, ◌||◌, refl, sym, ◌∙◌, ap, subst, arith}
+use Rattle.std.proofs.Common.{◌≡◌, ◌⊎◌, inl, inr, ⊎_elim, ◌<◌, ◌+◌, ℕ, zero, suc, List, [], ◌∷◌, ◌++◌, length, map, Bool, true, false, cond, ◌||◌, refl, sym}
+use Rattle.std.proofs.Common.{◌∙◌, ap, subst, arith}
 use Rattle.std.proofs.lemmas.Bool.{cases_lt, lt-ltb, ltb-true}
 use Rattle.std.proofs.lemmas.List.{length-append, take_all}
 use Rattle.std.proofs.lemmas.List.Folds.{list_any-append}
@@ -62,7 +63,8 @@ module _ (key : List ℕ) where
   with_one : (keys : List (List ℕ)) (k : List ℕ) → has_key key (with_key keys k) ≡ (has_key key keys || bytes_eq key k)
   with_one keys k =
       elim (has_key k keys) as (λ (b : Bool). has_key k keys ≡ b → has_key key (cond b keys (keys ++ k ∷ [])) ≡ (has_key key keys || bytes_eq key k)) [
-        | true ↦ λ has. or_same (has_key key keys) (bytes_eq key k) (λ same. subst (λ (x : List ℕ). has_key x keys ≡ true) (sym ((bytes_eq-Decides key k).0 same)) has)
+        | true ↦ λ has. or_same (has_key key keys) (bytes_eq key k)
+            (λ same. subst (λ (x : List ℕ). has_key x keys ≡ true) (sym ((bytes_eq-Decides key k).0 same)) has)
         | false ↦ λ has. list_any-append (bytes_eq key) keys (k ∷ []) ∙ or_false (has_key key keys) (bytes_eq key k)
       ] refl
 
@@ -131,7 +133,8 @@ module _ (key : List ℕ) where
     here x is =
         elim (nat_lt c x.number) as (λ (b : Bool). nat_lt c x.number ≡ b → (c < x.number) × (has_item x key ≡ true)) [
           | true ↦ λ less. (ltb-true c x.number less, sym (behind_all x.number x.stamp less 0 x.items) ∙ is)
-          | false ↦ λ not_. let none : has (placed_from x.number x.stamp 0 x.items) ≡ false = behind_none x.number x.stamp not_ 0 x.items in absurd (let no : ⊥ = cc in no)
+          | false ↦ λ not_. let none : has (placed_from x.number x.stamp 0 x.items) ≡ false = behind_none x.number x.stamp not_ 0 x.items in absurd
+              (let no : ⊥ = cc in no)
         ] refl
 
     reached : (n : ℕ) (cs : Catalog) → AreNumbered n cs → has (all_placed cs) ≡ true → (0 < last cs) × (c < n + last cs)
@@ -176,7 +179,8 @@ module _ (key : List ℕ) where
 
 all_touched : (cs : Catalog) (key : List ℕ) → touched_by cs key (length cs) ≡ touched (commits_of cs) key
 all_touched cs key =
-    ap (λ (l : List Commit). touched l key) (sym (fronts cs (length cs))) ∙ ap (λ (l : Catalog). touched (commits_of l) key) (take_all (length cs) cs (omega arith))
+    ap (λ (l : List Commit). touched l key) (sym (fronts cs (length cs)))
+    ∙ ap (λ (l : Catalog). touched (commits_of l) key) (take_all (length cs) cs (omega arith))
 
 pub are_due : (cs : Catalog) (c : ℕ) → IsLawful cs → AreDue cs c (length cs) (keys_after c cs)
 are_due cs c lawful = record {
@@ -186,5 +190,6 @@ are_due cs c lawful = record {
       omega (arith, same, at.1);
   all = λ key less.
       let same = all_touched cs key in
-      contains key (keys_after c cs) (keys_tell key c cs ∙ found key c 0 cs (numbered [] cs lawful.commits) (omega (arith, same, less)) (omega (arith, same, less)));
+      contains key (keys_after c cs) (keys_tell key c cs ∙ found key c 0 cs (numbered [] cs lawful.commits) (omega (arith, same, less))
+      (omega (arith, same, less)));
 }

@@ -45,7 +45,8 @@ stops_keep plan blob.Memory a b m P is stops to = run_keeps plan a b m is {A = U
 weaker : (P R : Area → Type 0) (a b : Seen) → ((left : Area) → P left → R left) → KeepsArea P a b → KeepsArea R a b
 weaker P R a b to keeps = ((keeps.0.0, keeps.0.1, to keeps.0.0 keeps.0.2), weaken P R a b to keeps.1)
 
-module _ (keeps : Keeps) (makes : Makes) (base : List ℕ) (staged : (base key : List ℕ) (number stamp : ℕ) (es : List Entry) → AreOfEntries es (makes base key number stamp es))
+module _ (keeps : Keeps) (makes : Makes) (base : List ℕ) (staged : (base key : List ℕ) (number stamp : ℕ) (es : List Entry)
+    → AreOfEntries es (makes base key number stamp es))
     (cs : Catalog) (Q : Catalog → Type 0) (c : ℕ) (m : Area) (old new : Seen)
     (laws : FoldLaws (fold_of keeps makes base) cs) (on : OnSoundArea (fold_of keeps makes base) Q cs c m old) where
   abbrev f : Fold
@@ -63,7 +64,8 @@ module _ (keeps : Keeps) (makes : Makes) (base : List ℕ) (staged : (base key :
   got_alone : (left : Area) → AfterPrefix (Get cursor_name ∷ []) m left → IsSound left
   got_alone left here = subst IsSound (sym (front_none m left (front_got cursor_name [] m left here))) on.sound
 
-  module _ (n target stamp : ℕ) (passes : List Pass) (task : IsTask Q old.held n target stamp (keys_in passes)) (all : AreWholePasses f Q n target old.held passes) where
+  module _ (n target stamp : ℕ) (passes : List Pass) (task : IsTask Q old.held n target stamp (keys_in passes))
+      (all : AreWholePasses f Q n target old.held passes) where
     abbrev put_plan : List Act
     put_plan = round_plan passes ++ cursor_put target stamp ∷ []
 
@@ -71,7 +73,8 @@ module _ (keeps : Keeps) (makes : Makes) (base : List ℕ) (staged : (base key :
     own = known keeps makes base staged cs Q c m old new laws on n target stamp (keys_in passes) passes task all
 
     before_put : (left : Area) → AfterPrefix (round_plan passes) m left → IsSound left
-    before_put left here = within_round keeps makes base staged cs on.catalog laws Q on.meant c target (own.task.ends cs on.meant) m on.sound passes own.all stamp left own.task here
+    before_put left here = within_round keeps makes base staged cs on.catalog laws Q on.meant c target (own.task.ends cs on.meant) m on.sound passes own.all
+        stamp left own.task here
 
     at_put : (left : Area) → AfterPrefix put_plan m left → IsEither left
     at_put left here = ⊎_elim
@@ -96,11 +99,13 @@ module _ (keeps : Keeps) (makes : Makes) (base : List ℕ) (staged : (base key :
       subst (λ (k : ℕ). IsPartPass f Q k target (held_after (passes_plan passes) (Some m)) last) own.cursor
       (subst (λ (h : Option Area). IsPartPass f Q n target (held_after (passes_plan passes) h) last) on.held part) in
       ends_keep (round_plan passes ++ pass_plan last) error old new m IsSound on.held halts
-      (λ left here. within_stopped keeps makes base staged cs on.catalog laws Q on.meant c target (own.task.ends cs on.meant) m on.sound passes own.all stamp last rest left own.task held here)
+      (λ left here. within_stopped keeps makes base staged cs on.catalog laws Q on.meant c target (own.task.ends cs on.meant) m on.sound passes own.all stamp
+      last rest left own.task held here)
 
   pub keeps_either : (result : Result RoundOut RoundErr) → Rounds f Q old new result → KeepsArea IsEither old new
   keeps_either (Ok (Done target)) (n, stamp, passes, task, all, made) =
-      run_keeps (round_plan passes ++ cursor_put target stamp ∷ []) old new m on.held {A = Unit {0}} IsEither (Ok tt) made (at_put n target stamp passes task all)
+      run_keeps (round_plan passes ++ cursor_put target stamp ∷ []) old new m on.held {A = Unit {0}} IsEither (Ok tt) made
+      (at_put n target stamp passes task all)
   keeps_either (Ok (Idle n)) (none, made) = either (run_keeps (Get cursor_name ∷ []) old new m on.held {A = Unit {0}} IsSound (Ok tt) made got_alone)
   keeps_either (Err error) (inl halts) = either (ends_keep (Get cursor_name ∷ []) error old new m IsSound on.held halts got_alone)
   keeps_either (Err error) (inr (inl halts)) = either (in_pass error halts)
@@ -114,19 +119,22 @@ module _ (keeps : Keeps) (makes : Makes) (base : List ℕ) (staged : (base key :
   stays_sound error (inr (inl halts)) other = (in_pass error halts).0
   stays_sound error (inr (inr (n, target, stamp, passes, task, all, inl halts))) other =
       (ends_keep (round_plan passes) error old new m IsSound on.held halts (before_put n target stamp passes task all)).0
-  stays_sound error (inr (inr (n, target, stamp, passes, task, all, inr (e, why, stops)))) other = by_error n target stamp passes task all error e why other stops
+  stays_sound error (inr (inr (n, target, stamp, passes, task, all, inr (e, why, stops)))) other = by_error n target stamp passes task all error e why other
+      stops
 
   -- the cursor
   cursor_stands : (left : Area) → IsSound left → get left cursor_name ≡ get m cursor_name
   cursor_stands left sound = sound.1.area.cursor ∙ sym on.sound.1.area.cursor
 
-  pub keeps_cursor : (error : RoundErr) → Rounds f Q old new (Err error) → error ≢ told.HiveFault → HoldsArea new (λ left. get left cursor_name ≡ get m cursor_name)
+  pub keeps_cursor : (error : RoundErr) → Rounds f Q old new (Err error) → error ≢ told.HiveFault
+      → HoldsArea new (λ left. get left cursor_name ≡ get m cursor_name)
   keeps_cursor error rounds other =
       let held = stays_sound error rounds other in
       (held.0, held.1, cursor_stands held.0 held.2)
 
   pub cursor_or_last : (error : RoundErr) → Rounds f Q old new (Err error)
-      → HoldsArea new (λ left. (get left cursor_name ≡ get m cursor_name) ⊎ ((get left cursor_name ≡ cursor_at cs (length cs)) × SettledArea f cs (length cs) left))
+      → HoldsArea new (λ left. (get left cursor_name ≡ get m cursor_name)
+      ⊎ ((get left cursor_name ≡ cursor_at cs (length cs)) × SettledArea f cs (length cs) left))
   cursor_or_last error rounds =
       let held = (keeps_either (Err error) rounds).0 in
       (held.0, held.1, ⊎_elim (λ sound. inl (cursor_stands held.0 sound)) (λ settled. inr (settled.1.area.cursor, settled)) held.2)

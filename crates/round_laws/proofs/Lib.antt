@@ -1,3 +1,4 @@
+pub mod Damage
 pub mod Ids
 pub mod Leaving
 pub mod Prefixes

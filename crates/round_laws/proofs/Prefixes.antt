@@ -1,5 +1,6 @@
 -- What prefixes of plans leave, and what a store tells after them.
-use Rattle.std.proofs.Common.{◌≡◌, ◌⊎◌, inl, inr, ⊎_elim, ℕ, List, [], ◌∷◌, ◌++◌, length, map, Some, option_map, Ok, Err, Result, refl, sym, ◌∙◌, ap, subst, append-nil, arith}
+use Rattle.std.proofs.Common.{◌≡◌, ◌⊎◌, inl, inr, ⊎_elim, ℕ, List, [], ◌∷◌, ◌++◌, length, map, Some, option_map, Ok, Err, Result, refl, sym, ◌∙◌, ap, subst}
+use Rattle.std.proofs.Common.{append-nil, arith}
 use Rattle.blob_store.specs.Area.{Area}
 use Rattle.blob_store.specs.Events.{Act, Change, Event, Fate, FailedOld, FailedNew, Get, MayLeave, NoMemory, after_events, with_effect}
 use Rattle.blob_store.specs.Events.{Done as WasDone}
@@ -83,13 +84,15 @@ module _ (plan : List Act) (a b : Seen) (m : Area) (is : a.held ≡ Some m) wher
   run_holds (Err blob.Memory) (inl stops) = stop_holds blob.Memory stops
   run_holds (Err blob.Memory) (inr (first, unmade, planned, made)) = (after_plan first m, holds first a b m made is, (first, unmade, planned, refl))
 
-  pub run_keeps : {A : Type 0} (P : Area → Type 0) (r : Result A BlobErr) → RunsInMemory plan a b r → ((left : Area) → AfterPrefix plan m left → P left) → Keeps P a b
+  pub run_keeps : {A : Type 0} (P : Area → Type 0) (r : Result A BlobErr) → RunsInMemory plan a b r → ((left : Area) → AfterPrefix plan m left → P left)
+      → Keeps P a b
   run_keeps P r runs to =
       let held = run_holds r runs in
       ((held.0, held.1, to held.0 held.2), weaken (AfterPrefix plan m) P a b to (plan_leaves plan a b m r runs is))
 
 -- where memory ran out at the last call of a plan, a prefix of those before it was made
-within_all : (p : List Act) (last : Act) (first : List Act) (l : Act) (unmade : List Act) → p ++ last ∷ [] ≡ first ++ l ∷ unmade → (rest : List Act) × (p ≡ first ++ rest)
+within_all : (p : List Act) (last : Act) (first : List Act) (l : Act) (unmade : List Act) → p ++ last ∷ [] ≡ first ++ l ∷ unmade → (rest : List Act)
+    × (p ≡ first ++ rest)
 within_all p last [] l unmade is = (p, refl)
 within_all [] last (f ∷ []) l unmade is = absurd (let no : ⊥ = cc in no)
 within_all [] last (f ∷ g ∷ first) l unmade is = absurd (let no : ⊥ = cc in no)
@@ -105,7 +108,8 @@ no_effect act FailedOld m told = absurd (let no : ⊥ = cc in no)
 no_effect act FailedNew m told = absurd (let no : ⊥ = cc in no)
 no_effect act NoMemory m told = refl
 
-pub memory_holds : (p : List Act) (last : Act) (a b : Seen) (m : Area) → a.held ≡ Some m → StopsAt (p ++ last ∷ []) blob.Memory a b → HoldsArea b (AfterPrefix p m)
+pub memory_holds : (p : List Act) (last : Act) (a b : Seen) (m : Area) → a.held ≡ Some m → StopsAt (p ++ last ∷ []) blob.Memory a b
+    → HoldsArea b (AfterPrefix p m)
 memory_holds p last a b m is (events, ends, tracked) =
     let within = within_all p last ends.first ends.last ends.unmade ends.planned in
     let same : after_events events m ≡ after_plan ends.first m =

@@ -21,7 +21,8 @@ use Rattle.job_round.specs.Rounds.{IsNoTask, IsTask, Rounds, cursor_put, round_p
 use Rattle.round_laws.specs.OnAreas.{HoldsArea, OnSoundArea}
 use Rattle.round_laws.proofs.Ways.{cursor_is, settles, task_cursor}
 
-module _ (keeps : Keeps) (makes : Makes) (base : List ℕ) (staged : (base key : List ℕ) (number stamp : ℕ) (es : List Entry) → AreOfEntries es (makes base key number stamp es))
+module _ (keeps : Keeps) (makes : Makes) (base : List ℕ) (staged : (base key : List ℕ) (number stamp : ℕ) (es : List Entry)
+    → AreOfEntries es (makes base key number stamp es))
     (cs : Catalog) (Q : Catalog → Type 0) (c : ℕ) (m : Area) (old new : Seen)
     (laws : FoldLaws (fold_of keeps makes base) cs) (on : OnSoundArea (fold_of keeps makes base) Q cs c m old) where
   abbrev f : Fold
@@ -33,7 +34,8 @@ module _ (keeps : Keeps) (makes : Makes) (base : List ℕ) (staged : (base key :
     pub all : AreWholePasses f Q c target (Some m) passes
     pub cursor : n ≡ c
 
-  pub known : (n target stamp : ℕ) (keys : List (List ℕ)) (passes : List Pass) → IsTask Q old.held n target stamp keys → AreWholePasses f Q n target old.held passes
+  pub known : (n target stamp : ℕ) (keys : List (List ℕ)) (passes : List Pass) → IsTask Q old.held n target stamp keys
+      → AreWholePasses f Q n target old.held passes
       → Known n target stamp keys passes
   known n target stamp keys passes task all =
       let own : IsTask Q (Some m) n target stamp keys = subst (λ (h : Option Area). IsTask Q h n target stamp keys) on.held task in

@@ -73,7 +73,8 @@ pub cursor_last : (cs : Catalog) (c : ℕ) → c < length cs → cursor_at cs (l
 cursor_last [] c less = absurd (omega (arith, less))
 cursor_last (x ∷ cs) c less = ap (λ (s : ℕ). Some (cursor_text (length (x ∷ cs)) s)) (last_stamp x cs)
 
-module _ (keeps : Keeps) (makes : Makes) (base : List ℕ) (staged : (base key : List ℕ) (number stamp : ℕ) (es : List Entry) → AreOfEntries es (makes base key number stamp es))
+module _ (keeps : Keeps) (makes : Makes) (base : List ℕ) (staged : (base key : List ℕ) (number stamp : ℕ) (es : List Entry)
+    → AreOfEntries es (makes base key number stamp es))
     (cs : Catalog) (catalog : IsCatalog cs) (laws : FoldLaws (fold_of keeps makes base) cs) (Q : Catalog → Type 0) (meant : Q cs) (c : ℕ) where
   abbrev f : Fold
   f = fold_of keeps makes base
@@ -129,14 +130,16 @@ module _ (keeps : Keeps) (makes : Makes) (base : List ℕ) (staged : (base key :
         (are_calls target ends p m sound item whole.takes) (all_by p.calls p.made whole.whole))
 
     pub only : (key : List ℕ) → c < touched_by cs key (length cs) → HaveItems cs c (length cs) (key ∷ [])
-    only key item = λ j is. ⊎_elim (λ e. subst (λ (x : List ℕ). c < touched_by cs x (length cs)) (sym e) item) (λ none. absurd (nothing_in j none)) (split key j [] is)
+    only key item = λ j is. ⊎_elim (λ e. subst (λ (x : List ℕ). c < touched_by cs x (length cs)) (sym e) item) (λ none. absurd (nothing_in j none))
+        (split key j [] is)
 
     pub pass_sound : (p : Pass) (m : Area) → SoundArea f cs c m → c < touched_by cs p.key (length cs) → IsWholePass f Q c target (Some m) p
         → SoundArea f cs c (after_plan (pass_plan p) m)
     pass_sound p m sound item whole = round_sound f cs laws c (p.key ∷ []) m (after_plan (pass_plan p) m) sound (only p.key item)
         (after_plan (pass_plan p) m, pass_led p m sound item whole, refl)
 
-    pub passes_led : (passes : List Pass) (m : Area) → SoundArea f cs c m → HaveItems cs c (length cs) (keys_in passes) → AreWholePasses f Q c target (Some m) passes
+    pub passes_led : (passes : List Pass) (m : Area) → SoundArea f cs c m → HaveItems cs c (length cs) (keys_in passes)
+        → AreWholePasses f Q c target (Some m) passes
         → AreLed f cs (length cs) (keys_in passes) m (after_plan (passes_plan passes) m)
     passes_led [] m sound items all = refl
     passes_led (p ∷ passes) m sound items all =
@@ -153,7 +156,8 @@ module _ (keeps : Keeps) (makes : Makes) (base : List ℕ) (staged : (base key :
     pub task_cursor : (n target stamp : ℕ) (keys : List (List ℕ)) → IsTask Q (Some m) n target stamp keys → n ≡ c
     task_cursor n target stamp keys task = cursor_is cs c n (get m cursor_name) catalog.lawful sound.1.sound.cursor sound.1.area.cursor task.cursor
 
-    module _ (target stamp : ℕ) (passes : List Pass) (task : IsTask Q (Some m) c target stamp (keys_in passes)) (all : AreWholePasses f Q c target (Some m) passes) where
+    module _ (target stamp : ℕ) (passes : List Pass) (task : IsTask Q (Some m) c target stamp (keys_in passes))
+        (all : AreWholePasses f Q c target (Some m) passes) where
       -- the whole round
       pub settles : SettledArea f cs (length cs) (after_plan (round_plan passes ++ cursor_put target stamp ∷ []) m)
       settles =

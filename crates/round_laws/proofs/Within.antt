@@ -48,33 +48,38 @@ all_some Q [] (x ∷ made) are = are
 all_some Q (call ∷ calls) [] are = tt
 all_some Q (call ∷ calls) (x ∷ made) are = (are.0, all_some Q calls made are.1)
 
-module _ (keeps : Keeps) (makes : Makes) (base : List ℕ) (staged : (base key : List ℕ) (number stamp : ℕ) (es : List Entry) → AreOfEntries es (makes base key number stamp es))
+module _ (keeps : Keeps) (makes : Makes) (base : List ℕ) (staged : (base key : List ℕ) (number stamp : ℕ) (es : List Entry)
+    → AreOfEntries es (makes base key number stamp es))
     (cs : Catalog) (catalog : IsCatalog cs) (laws : FoldLaws (fold_of keeps makes base) cs) (Q : Catalog → Type 0) (meant : Q cs) (c : ℕ)
     (target : ℕ) (ends : target ≡ length cs) where
   abbrev f : Fold
   f = fold_of keeps makes base
 
   -- within a pass
-  within_pass : (p : Pass) (m left : Area) → SoundArea f cs c m → c < touched_by cs p.key (length cs) → TakesUp f Q c target (Some m) p → AreSomeMade Q p.calls p.made
+  within_pass : (p : Pass) (m left : Area) → SoundArea f cs c m → c < touched_by cs p.key (length cs) → TakesUp f Q c target (Some m) p
+      → AreSomeMade Q p.calls p.made
       → AfterPrefix (pass_plan p) m left → SoundArea f cs c left
   within_pass p m left sound item takes some here =
       let after : IsAfterSome p.made m left = front_changes p.made m left (front_got (state_name p.key) (map Change p.made) m left here) in
       let way : (left ≡ m) ⊎ IsPartlyPassed f cs p.key (length cs) m left =
-      partly_led keeps makes base staged cs c p.key p.stored m laws (starts keeps makes base staged cs catalog laws Q meant c target ends p m sound item takes) p.calls p.made left
+      partly_led keeps makes base staged cs c p.key p.stored m laws
+      (starts keeps makes base staged cs catalog laws Q meant c target ends p m sound item takes) p.calls p.made left
       (are_calls keeps makes base staged cs catalog laws Q meant c target ends p m sound item takes)
       (some_by keeps makes base staged cs catalog laws Q meant c p.calls p.made some) after in
       let on : IsOnTheWay f cs (length cs) (p.key ∷ []) m left = ⊎_elim (λ e. inl e) (λ part. inr (inl part)) way in
       on_the_way f cs laws c (p.key ∷ []) m left sound (only keeps makes base staged cs catalog laws Q meant c target ends p.key item) on
 
   -- within passes that are made whole
-  pub within_passes : (passes : List Pass) (m left : Area) → SoundArea f cs c m → HaveItems cs c (length cs) (keys_in passes) → AreWholePasses f Q c target (Some m) passes
+  pub within_passes : (passes : List Pass) (m left : Area) → SoundArea f cs c m → HaveItems cs c (length cs) (keys_in passes)
+      → AreWholePasses f Q c target (Some m) passes
       → AfterPrefix (passes_plan passes) m left → SoundArea f cs c left
   within_passes [] m left sound items all here = subst (λ (a : Area). SoundArea f cs c a) (sym (front_none m left here)) sound
   within_passes (p ∷ passes) m left sound items all here =
       let item : c < touched_by cs p.key (length cs) = items p.key (first p.key (keys_in passes)) in
       ⊎_elim
       (λ own. within_pass p m left sound item all.0.takes (all_some Q p.calls p.made all.0.whole) own)
-      (λ more. within_passes passes (after_plan (pass_plan p) m) left (pass_sound keeps makes base staged cs catalog laws Q meant c target ends p m sound item all.0)
+      (λ more. within_passes passes (after_plan (pass_plan p) m) left
+      (pass_sound keeps makes base staged cs catalog laws Q meant c target ends p m sound item all.0)
       (λ j is. items j (later p.key j (keys_in passes) is)) all.1 more)
       (front_split (pass_plan p) (passes_plan passes) m left here)
 
@@ -92,13 +97,15 @@ module _ (keeps : Keeps) (makes : Makes) (base : List ℕ) (staged : (base key :
         subst (λ (l : List (List ℕ)). HaveItems cs c (length cs) l) (sym (task.ids cs meant)) (are_due cs c catalog.lawful).some
 
     -- within the whole passes of a round
-    pub within_round : (stamp : ℕ) (left : Area) → IsTask Q (Some m) c target stamp (keys_in passes) → AfterPrefix (round_plan passes) m left → SoundArea f cs c left
+    pub within_round : (stamp : ℕ) (left : Area) → IsTask Q (Some m) c target stamp (keys_in passes) → AfterPrefix (round_plan passes) m left
+        → SoundArea f cs c left
     within_round stamp left task here =
         within_passes passes m left sound (task_items stamp (keys_in passes) task) all (front_got cursor_name (passes_plan passes) m left here)
 
     -- within those of a round that stopped in a pass
     pub within_stopped : (stamp : ℕ) (last : Pass) (rest : List (List ℕ)) (left : Area) → IsTask Q (Some m) c target stamp (keys_in passes ++ last.key ∷ rest)
-        → IsPartPass f Q c target (held_after (passes_plan passes) (Some m)) last → AfterPrefix (round_plan passes ++ pass_plan last) m left → SoundArea f cs c left
+        → IsPartPass f Q c target (held_after (passes_plan passes) (Some m)) last → AfterPrefix (round_plan passes ++ pass_plan last) m left
+        → SoundArea f cs c left
     within_stopped stamp last rest left task part here =
         let items : HaveItems cs c (length cs) (keys_in passes ++ last.key ∷ rest) = task_items stamp (keys_in passes ++ last.key ∷ rest) task in
         let own : HaveItems cs c (length cs) (keys_in passes) = λ j is. items j (contains_left j (keys_in passes) (last.key ∷ rest) is) in

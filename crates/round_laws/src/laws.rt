@@ -1,5 +1,5 @@
 // What holds of the rounds of a hive.
-ghost use Rattle.std.specs.Prelude.{◌≡◌, ◌≢◌, ◌⊎◌, ℕ, length, Result, Some};
+ghost use Rattle.std.specs.Prelude.{◌≡◌, ◌≢◌, ◌⊎◌, ℕ, List, length, Result, Some};
 ghost use Rattle.std.specs.declared.result.Result.TheVariants.{Ok, Err};
 ghost use Rattle.std.specs.FinMap.{get};
 ghost use Rattle.blob_store.specs.Area.{Area};
@@ -10,9 +10,10 @@ ghost use Rattle.cursor_doc.specs.Cursor.{cursor_name};
 ghost use Rattle.fold_core.specs.Folds.{fold_of};
 ghost use Rattle.hive_laws.specs.Areas.{SettledArea, SoundArea, cursor_at};
 ghost use Rattle.id_pass.specs.declared.error.RoundErr.{RoundErr};
-ghost use Rattle.id_pass.specs.declared.error.RoundErr.TheVariants.{HiveFault};
+ghost use Rattle.id_pass.specs.declared.error.RoundErr.TheVariants.{Damaged, HiveFault};
 ghost use Rattle.id_pass.specs.declared.error.RoundOut.{RoundOut};
 ghost use Rattle.id_pass.specs.declared.error.RoundOut.TheVariants.{Done, Idle};
+ghost use Rattle.job_round.specs.Answers.{IsDamagedBlob, IsLostInCatalog, IsLostInHive, in_catalog};
 ghost use Rattle.job_round.specs.Rounds.{Rounds};
 ghost use Rattle.round_laws.specs.OnAreas.{HoldsArea, IsSoundOrSettled, OnSoundArea};
 
@@ -61,4 +62,17 @@ pub fn rounds_keep_cursors<H: Hive, B: Blobs>()
         → Rounds (fold_of H.keeps H.makes o.base) (IsOpenFor o (B.seen o.area)) (B.seen old) (B.seen new) (Err error)
         → HoldsArea (B.seen new) (λ left. (get left cursor_name ≡ get m cursor_name)
         ⊎ ((get left cursor_name ≡ cursor_at cs (length cs)) × SettledArea (fold_of H.keeps H.makes o.base) cs (length cs) left)) }
+{}
+
+/// Of a round over a sound area no blob of the hive is damaged: what is told so is one of the catalog. It does nothing.
+pub fn sound_rounds_are_whole<H: Hive, B: Blobs>()
+    ensures none_of_hive { (o : Opened B) (old new : B) (cs : Catalog) (c : ℕ) (m : Area) (error : RoundErr)
+        → OnSoundArea (fold_of H.keeps H.makes o.base) (IsOpenFor o (B.seen o.area)) cs c m (B.seen old)
+        → Rounds (fold_of H.keeps H.makes o.base) (IsOpenFor o (B.seen o.area)) (B.seen old) (B.seen new) (Err error) → error ≢ HiveFault
+        → (name : List ℕ) → IsLostInHive o (B.seen o.area) (B.seen new).held name → ⊥ }
+    ensures of_catalog { (o after : Opened B) (old new : B) (cs : Catalog) (c : ℕ) (m : Area) (text : List ℕ)
+        → OnSoundArea (fold_of H.keeps H.makes o.base) (IsOpenFor o (B.seen o.area)) cs c m (B.seen old)
+        → Rounds (fold_of H.keeps H.makes o.base) (IsOpenFor o (B.seen o.area)) (B.seen old) (B.seen new) (Err (Damaged text))
+        → IsDamagedBlob o after (B.seen o.area) (B.seen after.area) (B.seen new).held text
+        → (name : List ℕ) × (text ≡ in_catalog name) × IsLostInCatalog o after (B.seen o.area) (B.seen after.area) name }
 {}

@@ -4,4 +4,4 @@
 
 mod laws;
 
-pub use laws::{rounds_keep_cursors, rounds_settle, rounds_stay_sound};
+pub use laws::{rounds_keep_cursors, rounds_settle, rounds_stay_sound, sound_rounds_are_whole};

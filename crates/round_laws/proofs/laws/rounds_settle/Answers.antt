@@ -10,5 +10,6 @@ returns-clause-done g c = λ o old new cs cursor n m on rounds.
 
 pub returns-clause-idle : goal.returns-clause-idle
 returns-clause-idle g c = λ o old new cs cursor n m on rounds.
-    idle_settled g.H.Hive.keeps g.H.Hive.makes o.base g.met.H.Hive.staged cs (IsOpenFor o (g.B.Blobs.seen o.area)) cursor m (g.B.Blobs.seen old) (g.B.Blobs.seen new)
+    idle_settled g.H.Hive.keeps g.H.Hive.makes o.base g.met.H.Hive.staged cs (IsOpenFor o (g.B.Blobs.seen o.area)) cursor m (g.B.Blobs.seen old)
+    (g.B.Blobs.seen new)
     (fold_laws g.H.Hive.keeps g.H.Hive.makes o.base g.met.H.Hive.empty g.met.H.Hive.owned g.met.H.Hive.staged cs on.catalog.lawful) on n rounds
