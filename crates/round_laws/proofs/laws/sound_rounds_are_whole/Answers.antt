@@ -21,5 +21,5 @@ returns-clause-none_of_hive g c = λ o old new cs cursor m error on rounds other
     let held = stays_sound g.H.Hive.keeps g.H.Hive.makes o.base g.met.H.Hive.staged cs (IsOpenFor o (g.B.Blobs.seen o.area)) cursor m (g.B.Blobs.seen old)
     (g.B.Blobs.seen new)
     (fold_laws g.H.Hive.keeps g.H.Hive.makes o.base g.met.H.Hive.empty g.met.H.Hive.owned g.met.H.Hive.staged cs on.catalog.lawful) on error rounds other in
-    λ name lost. none_of_hive o o (g.B.Blobs.seen o.area) (g.B.Blobs.seen o.area) cs on.meant (fold_of g.H.Hive.keeps g.H.Hive.makes o.base) cursor held.0 held.2
-    (g.B.Blobs.seen new).held name held.1 lost
+    λ name lost. none_of_hive o o (g.B.Blobs.seen o.area) (g.B.Blobs.seen o.area) cs on.meant (fold_of g.H.Hive.keeps g.H.Hive.makes o.base) cursor
+    held.0 held.2 (g.B.Blobs.seen new).held name held.1 lost
