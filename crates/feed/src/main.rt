@@ -15,18 +15,18 @@ use system::{FolderLock, Reading, SystemClock, Writing, stores};
 use words::{Words, given_words};
 
 // The lock on the feed's folder, which `init` makes where there is none. For words without a meaning it isn't asked for.
-fn lock_for(rt: &HostRuntime, words: &Words) -> FolderLock {
-    match meaning_of(&words.command) {
-        None => FolderLock::none(),
-        Some(Command::Init(_)) => FolderLock::make(rt, rt, &words.folder),
-        Some(_) => FolderLock::take(rt, rt, &words.folder),
+fn lock_for(rt: &HostRuntime, words: &Words) -> Result<FolderLock, NoMemory> {
+    match meaning_of(rt.alloc(), &words.command)? {
+        None => Ok(FolderLock::none()),
+        Some(Command::Init(_)) => Ok(FolderLock::make(rt, rt, &words.folder)),
+        Some(_) => Ok(FolderLock::take(rt, rt, &words.folder)),
     }
 }
 
 fn run<O: Sink>(rt: &HostRuntime, output: &mut O) -> Result<Status, NoMemory> {
     let alloc = rt.alloc();
     let words = given_words(rt)?;
-    let lock = lock_for(rt, &words);
+    let lock = lock_for(rt, &words)?;
     let stores = stores(rt, alloc, &words.folder, &lock)?;
     let mut input = Reading::new(rt.reader());
     let mut clock = SystemClock::new(rt);

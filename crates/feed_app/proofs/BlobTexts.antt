@@ -6,7 +6,7 @@ use Rattle.fold_core.specs.declared.hive.HiveName.TheVariants.{Plain, SemVer2, C
 use Rattle.job_round.specs.Answers.{in_hive}
 use Rattle.admin_wire.specs.declared.area.AreaName.{AreaName}
 use Rattle.admin_wire.specs.declared.line.Line.TheVariants.{Damaged}
-use Rattle.feed_paths.specs.Cuts.{IsFree}
+use Rattle.feed_routes.specs.Cuts.{IsFree}
 use Rattle.feed_app.specs.declared.answer.Answer.TheVariants.{Reply}
 
 -- no word has a slash

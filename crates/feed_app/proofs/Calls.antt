@@ -62,9 +62,10 @@ module _ {B : Type 0} (m : Members B) (before after : Sight B) where
   ByCommand asked answer = (command : Command) × (asked ≡ Some command) × Explains m (meaning m command).reach before answer after
 
   -- an answer but Usage is one of a command
-  by_command : (asked : Option Command) (answer : Answer) → Does m asked before answer after → answer_status answer ≢ 2 → ByCommand asked answer
-  by_command None answer does other = absurd (other (ap answer_status does.0))
-  by_command (Some command) answer does other = (command, refl, does.explains)
+  by_command : (asked : Option Command) (answer : Answer) → Does m asked before answer after → answer_status answer ≢ 2 → answer_status answer ≢ 8 → ByCommand asked answer
+  by_command None answer (inl usage, same) other no8 = absurd (other (ap answer_status usage))
+  by_command None answer (inr memory, same) other no8 = absurd (no8 (ap answer_status memory))
+  by_command (Some command) answer does other no8 = (command, refl, does.explains)
 
   usage_does : (asked : Option Command) → Does m asked before Usage after → asked ≡ None
   usage_does None does = refl
@@ -99,8 +100,8 @@ module _ {B I O C : Type 0} (b : Bounds B I O C) (words : List (List ℕ)) (befo
   pub zero_answer : status ≡ 0 → answer_status run.answer ≡ 0
   zero_answer is = its_status (λ e. omega (arith, is, e)) (λ e. omega (arith, is, e)) ∙ is
 
-  its_cause : answer_status run.answer ≢ 2 → ByCommand b.blobs (sight b before) (sight b after) (command_of words) run.answer
-  its_cause other = by_command b.blobs (sight b before) (sight b after) (command_of words) run.answer run.does other
+  its_cause : answer_status run.answer ≢ 2 → answer_status run.answer ≢ 8 → ByCommand b.blobs (sight b before) (sight b after) (command_of words) run.answer
+  its_cause other no8 = by_command b.blobs (sight b before) (sight b after) (command_of words) run.answer run.does other no8
 
   pub usage_only : status ≡ 2 → command_of words ≡ None
   usage_only is =
@@ -108,7 +109,7 @@ module _ {B I O C : Type 0} (b : Bounds B I O C) (words : List (List ℕ)) (befo
       (subst (λ (a : Answer). Does b.blobs (command_of words) (sight b before) a (sight b after))
       (is_usage run.answer (its_status (λ e. omega (arith, is, e)) (λ e. omega (arith, is, e)) ∙ is)) run.does)
 
-  nothing_done : command_of words ≡ None → (run.answer ≡ Usage) × (sight b after ≡ sight b before)
+  nothing_done : command_of words ≡ None → ((run.answer ≡ Usage) ⊎ (run.answer ≡ Reply line.Memory)) × (sight b after ≡ sight b before)
   nothing_done none = subst (λ (o : Option Command). Does b.blobs o (sight b before) run.answer (sight b after)) none run.does
 
   pub untouched : command_of words ≡ None → after.stores ≡ before.stores
@@ -116,19 +117,19 @@ module _ {B I O C : Type 0} (b : Bounds B I O C) (words : List (List ℕ)) (befo
 
   pub usage_always : command_of words ≡ None → (status ≡ 2) ⊎ ((status ≡ 5) ⊎ (status ≡ 8))
   usage_always none = ⊎_elim
-      (λ all. inl (all.number ∙ ap answer_status (nothing_done none).0))
+      (λ all. ⊎_elim (λ usage. inl (all.number ∙ ap answer_status usage)) (λ memory. inr (inr (all.number ∙ ap answer_status memory))) (nothing_done none).0)
       (λ other. inr (⊎_elim (λ memory. inr memory.number) (λ prefix. inl prefix.number) other)) run.writes
 
   pub refused : status ≡ 3 → (command : Command) × (command_of words ≡ Some command)
   refused is =
       let kind : answer_status run.answer ≡ 3 = its_status (λ e. omega (arith, is, e)) (λ e. omega (arith, is, e)) ∙ is in
-      let cause = its_cause (λ e. omega (arith, kind, e)) in
+      let cause = its_cause (λ e. omega (arith, kind, e)) (λ e. omega (arith, kind, e)) in
       (cause.0, cause.1)
 
   pub store_fault : status ≡ 4 → (name : AreaName) × IsTouchedBy b.blobs words name × AreaRose b.blobs (area_of before.stores name) (area_of after.stores name)
   store_fault is =
       let kind : answer_status run.answer ≡ 4 = its_status (λ e. omega (arith, is, e)) (λ e. omega (arith, is, e)) ∙ is in
-      let cause = its_cause (λ e. omega (arith, kind, e)) in
+      let cause = its_cause (λ e. omega (arith, kind, e)) (λ e. omega (arith, kind, e)) in
       let fault = is_fault run.answer kind in
       let why = subst (λ (a : Answer). Explains b.blobs (meaning b.blobs cause.0).reach (sight b before) a (sight b after)) fault.1 cause.2 in
       (fault.0, (cause.0, cause.1, why.0), why.1)
@@ -138,7 +139,7 @@ module _ {B I O C : Type 0} (b : Bounds B I O C) (words : List (List ℕ)) (befo
   stream_fault is = ⊎_elim
       (λ all.
       let kind : answer_status run.answer ≡ 5 = sym all.number ∙ is in
-      let cause = its_cause (λ e. omega (arith, kind, e)) in
+      let cause = its_cause (λ e. omega (arith, kind, e)) (λ e. omega (arith, kind, e)) in
       let why = subst (λ (a : Answer). Explains b.blobs (meaning b.blobs cause.0).reach (sight b before) a (sight b after))
       (is_input_fault run.answer kind) cause.2 in
       inl why.1)
@@ -147,7 +148,7 @@ module _ {B I O C : Type 0} (b : Bounds B I O C) (words : List (List ℕ)) (befo
   pub damaged : status ≡ 6 → (command : Command) × (command_of words ≡ Some command) × HasLost b.blobs (meaning b.blobs command).reach before.stores after.stores
   damaged is =
       let kind : answer_status run.answer ≡ 6 = its_status (λ e. omega (arith, is, e)) (λ e. omega (arith, is, e)) ∙ is in
-      let cause = its_cause (λ e. omega (arith, kind, e)) in
+      let cause = its_cause (λ e. omega (arith, kind, e)) (λ e. omega (arith, kind, e)) in
       let lost = is_damage run.answer kind in
       let why = subst (λ (a : Answer). Explains b.blobs (meaning b.blobs cause.0).reach (sight b before) a (sight b after)) lost.2 cause.2 in
       (cause.0, cause.1, (lost.0, lost.1, why.0, why.1))
@@ -156,7 +157,7 @@ module _ {B I O C : Type 0} (b : Bounds B I O C) (words : List (List ℕ)) (befo
       × IfSome (b.source.left before.input) (λ body. most_input < length body)
   too_long is =
       let kind : answer_status run.answer ≡ 7 = its_status (λ e. omega (arith, is, e)) (λ e. omega (arith, is, e)) ∙ is in
-      let cause = its_cause (λ e. omega (arith, kind, e)) in
+      let cause = its_cause (λ e. omega (arith, kind, e)) (λ e. omega (arith, kind, e)) in
       let why = subst (λ (a : Answer). Explains b.blobs (meaning b.blobs cause.0).reach (sight b before) a (sight b after)) (is_long run.answer kind) cause.2 in
       (cause.0, cause.1, why.0, why.1)
 

@@ -6,9 +6,8 @@ use Rattle.blob_store.specs.Area.{Area}
 use Rattle.pkg_meta.specs.Catalog.{Catalog}
 use Rattle.catalog_doc.specs.CatDocs.{doc_at}
 use Rattle.blob_store.specs.Seen.{Seen}
-use Rattle.feed_paths.specs.Paths.{IsCatalogPath, IsHivePath, without_query}
-use Rattle.feed_paths.specs.declared.hives.ServedHive.{ServedHive}
-use Rattle.feed_paths.proofs.Exclusion.{catalog_hive, catalog_not_yet, hive_not_yet, same_name, same_rest}
+use Rattle.feed_routes.specs.Index.{service_index_text}
+use Rattle.feed_app.specs.declared.hives.ServedHive.{ServedHive}
 use Rattle.admin_wire.specs.declared.line.Line.TheVariants as line
 use Rattle.admin_wire.specs.declared.line.Refusal.TheVariants as refusal
 use Rattle.admin_wire.specs.declared.area.AreaName.{AreaName}
@@ -16,16 +15,19 @@ use Rattle.admin_wire.specs.declared.area.AreaName.TheVariants as area
 use Rattle.feed_app.specs.Accepts.{Accepts}
 use Rattle.feed_app.specs.Answers.{answer_status}
 use Rattle.feed_app.specs.Frame.{Explains}
-use Rattle.feed_app.specs.Gets.{Gets, HasCatalogDocument, HasHiveDocument, HoldsDocument, IsHeld, OfCatalog, OfDocument, OfHive, AnswersPath, get_meaning, stored_name}
+use Rattle.feed_app.specs.Gets.{Gets, HasCatalogDocument, HasHiveDocument, HasIndex, HoldsDocument, HoldsIndex, IsHeld, OfCatalog, OfDocument, OfHive, AnswersPath, get_meaning}
 use Rattle.feed_app.specs.Hives.{hive_area, hive_stores}
 use Rattle.feed_app.specs.Openings.{IsOfStore, NotOpened}
 use Rattle.feed_app.specs.Outside.{AreaRose, Members, Shows, Sight, held}
 use Rattle.feed_app.specs.Spelled.{HasCatalog, HoldsCatalog, Of}
+use Rattle.feed_app.specs.Targets.{IsCatalogPath, IsHivePath, IsIndexPath, hive_ask}
+use Rattle.feed_routes.specs.declared.ask.Ask.TheVariants as ask
 use Rattle.feed_app.specs.declared.answer.Answer.{Answer}
 use Rattle.feed_app.specs.declared.answer.Answer.TheVariants.{Reply, Document}
 use Rattle.feed_app.proofs.Absent.{one_value, some_none}
 use Rattle.feed_app.proofs.Closed.{closed_explains}
 use Rattle.feed_app.proofs.Places.{by_area, get_touches}
+use Rattle.feed_app.proofs.Asked.{catalog_hive, catalog_index, catalog_server, hive_index, hive_server, index_server, same_hive, same_name}
 
 module _ {B : Type 0} (m : Members B) (path : List ℕ) (before after : Sight B) where
   abbrev Explained : Answer → Type 0
@@ -49,13 +51,13 @@ module _ {B : Type 0} (m : Members B) (path : List ℕ) (before after : Sight B)
   catalog_explains (Reply line.Memory) name rose is = tt
   catalog_explains _ name rose is = absurd is.kind
 
-  hive_explains : (hive : ServedHive) (answer : Answer) (rest : List ℕ) (told : Option Area) → IsHivePath hive (without_query path) rest → HiveCause answer
+  hive_explains : (hive : ServedHive) (answer : Answer) (rest : List ℕ) (told : Option Area) → IsHivePath hive path rest → HiveCause answer
       → OfHive hive answer rest told → Explained answer
   hive_explains hive (Document bytes) rest told names rose is = tt
   hive_explains hive (Reply (line.Refused why)) rest told names rose is = tt
   hive_explains hive (Reply (line.Fault name)) rest told names rose is =
       subst (λ (n : AreaName). Explained (Reply (line.Fault n))) (sym is)
-      (get_touches hive (without_query path) rest names, by_area m before.stores after.stores hive (rose hive (ap (λ (n : AreaName). Reply (line.Fault n)) is)))
+      (get_touches hive path rest names, by_area m before.stores after.stores hive (rose hive (ap (λ (n : AreaName). Reply (line.Fault n)) is)))
   hive_explains hive (Reply line.Memory) rest told names rose is = tt
   hive_explains hive _ rest told names rose is = absurd is
 
@@ -63,9 +65,10 @@ module _ {B : Type 0} (m : Members B) (path : List ℕ) (before after : Sight B)
   explains answer old new rose other (inl (closed, same)) = closed_explains m (get_meaning m path).reach before after answer tt rose closed
   explains answer old new rose other (inr (inl (hive, rest, names, is, others))) = hive_explains hive answer rest (held m (old hive)) names other is
   explains answer old new rose other (inr (inr (same, inl (name, names, is)))) = catalog_explains answer name rose is
-  explains answer old new rose other (inr (inr (same, inr (inl not_yet)))) = subst Explained (sym not_yet.1) tt
-  explains answer old new rose other (inr (inr (same, inr (inr (inl of_none))))) = subst Explained (sym of_none.1) tt
-  explains answer old new rose other (inr (inr (same, inr (inr (inr memory))))) = subst Explained (sym memory) tt
+  explains answer old new rose other (inr (inr (same, inr (inl (names, (bytes, is, texts)))))) = subst Explained (sym is) tt
+  explains answer old new rose other (inr (inr (same, inr (inr (inl server))))) = subst Explained (sym server.1) tt
+  explains answer old new rose other (inr (inr (same, inr (inr (inr (inl unknown)))))) = subst Explained (sym unknown.1) tt
+  explains answer old new rose other (inr (inr (same, inr (inr (inr (inr memory)))))) = subst Explained (sym memory) tt
 
 of_as : (answer : Answer) (name : List ℕ) (Is Are : Of) → ((base : List ℕ) (cs : Catalog) → Are base cs → Is base cs) → OfCatalog answer name Is
     → OfCatalog answer name Are
@@ -77,7 +80,9 @@ pub reads_as : {B : Type 0} (m : Members B) (answer : Answer) (path : List ℕ) 
     → AnswersPath m answer path Is old new → AnswersPath m answer path Are old new
 reads_as m answer path Is Are old new to (inl of_hive) = inl of_hive
 reads_as m answer path Is Are old new to (inr (same, inl (name, names, of))) = inr (same, inl (name, names, of_as answer name Is Are to of))
-reads_as m answer path Is Are old new to (inr (same, inr other)) = inr (same, inr other)
+reads_as m answer path Is Are old new to (inr (same, inr (inl (names, (bytes, is, texts))))) =
+    inr (same, inr (inl (names, (bytes, is, λ base cs are. texts base cs (to base cs are)))))
+reads_as m answer path Is Are old new to (inr (same, inr (inr other))) = inr (same, inr (inr other))
 
 -- the document's bytes, a fault of the area, or out of memory
 abbrev pub IsGood : AreaName → List ℕ → Answer → Type 0
@@ -103,12 +108,12 @@ module _ (bytes : List ℕ) (document : Option (List ℕ)) (has : document ≡ S
 
 -- what a hive's area holds is the answer
 module _ (told : Option Area) (blobs : Area) (bytes : List ℕ) (there : told ≡ Some blobs) (hive : ServedHive) (rest : List ℕ)
-    (holds : get blobs (stored_name rest) ≡ Some bytes) where
+    (holds : get blobs rest ≡ Some bytes) where
   of_hive_held : (answer : Answer) → OfHive hive answer rest told → IsGood (hive_area hive) bytes answer
   of_hive_held (Document found) is =
-      inl (ap Document (one_value (get blobs (stored_name rest)) found bytes (at_some told (λ a. get a (stored_name rest) ≡ Some found) blobs there is) holds))
+      inl (ap Document (one_value (get blobs rest) found bytes (at_some told (λ a. get a rest ≡ Some found) blobs there is) holds))
   of_hive_held (Reply (line.Refused refusal.Missing)) is =
-      absurd (some_none (get blobs (stored_name rest)) bytes holds (at_some told (λ a. get a (stored_name rest) ≡ None) blobs there is))
+      absurd (some_none (get blobs rest) bytes holds (at_some told (λ a. get a rest ≡ None) blobs there is))
   of_hive_held (Reply (line.Fault name)) is = inr (inl (ap (λ (n : AreaName). Reply (line.Fault n)) is))
   of_hive_held (Reply line.Memory) is = inr (inr refl)
   of_hive_held _ is = absurd is
@@ -122,21 +127,34 @@ module _ {B : Type 0} (m : Members B) (answer : Answer) (path bytes : List ℕ) 
       let is = subst (λ (n : List ℕ). OfCatalog answer n (HasCatalog catalog)) (same_name path of_name.0 name of_name.1 names) of_name.2 in
       of_document_held bytes (doc_at holds.0 holds.1 name) holds.4 answer
       (is.document holds.0 holds.1 (record { lawful = holds.2; store = (blobs, there, holds.3) }))
-  by_catalog name blobs there holds names (inr (same, inr (inl not_yet))) = absurd (catalog_not_yet path name names not_yet.0)
-  by_catalog name blobs there holds names (inr (same, inr (inr (inl of_none)))) = absurd (of_none.0.catalog name names)
-  by_catalog name blobs there holds names (inr (same, inr (inr (inr memory)))) = inr (inr memory)
+  by_catalog name blobs there holds names (inr (same, inr (inl index))) = absurd (catalog_index path name names index.0)
+  by_catalog name blobs there holds names (inr (same, inr (inr (inl server)))) = absurd (catalog_server path name names server.0)
+  by_catalog name blobs there holds names (inr (same, inr (inr (inr (inl unknown))))) = absurd (unknown.0 (ask.CatalogDoc name) names)
+  by_catalog name blobs there holds names (inr (same, inr (inr (inr (inr memory))))) = inr (inr memory)
 
-  by_hive_name : (hive : ServedHive) (rest : List ℕ) (blobs : Area) → held m (old hive) ≡ Some blobs → get blobs (stored_name rest) ≡ Some bytes
+  by_index : (blobs : Area) → catalog.held ≡ Some blobs → HoldsIndex blobs bytes → IsIndexPath path
+      → AnswersPath m answer path (HasCatalog catalog) old new → IsGood area.Catalog bytes answer
+  by_index blobs there holds names (inl (hive, rest, its, is, others)) = absurd (hive_index hive path rest its names)
+  by_index blobs there holds names (inr (same, inl of_name)) = absurd (catalog_index path of_name.0 of_name.1 names)
+  by_index blobs there holds names (inr (same, inr (inl (its, (found, is, texts))))) =
+      let text : service_index_text holds.0 ≡ found = texts holds.0 holds.1 (record { lawful = holds.2; store = (blobs, there, holds.3) }) in
+      inl (is ∙ ap Document (sym text ∙ holds.4))
+  by_index blobs there holds names (inr (same, inr (inr (inl server)))) = absurd (index_server path names server.0)
+  by_index blobs there holds names (inr (same, inr (inr (inr (inl unknown))))) = absurd (unknown.0 ask.Index names)
+  by_index blobs there holds names (inr (same, inr (inr (inr (inr memory))))) = inr (inr memory)
+
+  by_name : (hive : ServedHive) (rest : List ℕ) (blobs : Area) → held m (old hive) ≡ Some blobs → get blobs rest ≡ Some bytes
       → IsHivePath hive path rest
       → AnswersPath m answer path (HasCatalog catalog) old new → IsGood (hive_area hive) bytes answer
-  by_hive_name hive rest blobs there holds names (inl (one, more, its, is, others)) =
-      let same = same_rest one hive path more rest its names in
+  by_name hive rest blobs there holds names (inl (one, more, its, is, others)) =
+      let same = same_hive one hive path more rest its names in
       of_hive_held (held m (old hive)) blobs bytes there hive rest holds answer
       (subst (λ (h : ServedHive). OfHive h answer rest (held m (old h))) same.0 (subst (λ (r : List ℕ). OfHive one answer r (held m (old one))) same.1 is))
-  by_hive_name hive rest blobs there holds names (inr (same, inl of_name)) = absurd (catalog_hive hive path of_name.0 rest of_name.1 names)
-  by_hive_name hive rest blobs there holds names (inr (same, inr (inl not_yet))) = absurd (hive_not_yet hive path rest names not_yet.0)
-  by_hive_name hive rest blobs there holds names (inr (same, inr (inr (inl of_none)))) = absurd (of_none.0.hive hive rest names)
-  by_hive_name hive rest blobs there holds names (inr (same, inr (inr (inr memory)))) = inr (inr memory)
+  by_name hive rest blobs there holds names (inr (same, inl of_name)) = absurd (catalog_hive hive path of_name.0 rest of_name.1 names)
+  by_name hive rest blobs there holds names (inr (same, inr (inl index))) = absurd (hive_index hive path rest names index.0)
+  by_name hive rest blobs there holds names (inr (same, inr (inr (inl server)))) = absurd (hive_server hive path rest names server.0)
+  by_name hive rest blobs there holds names (inr (same, inr (inr (inr (inl unknown))))) = absurd (unknown.0 (hive_ask hive rest) names)
+  by_name hive rest blobs there holds names (inr (same, inr (inr (inr (inr memory))))) = inr (inr memory)
 
 -- a document that is held is the answer, faults and out of memory aside
 module _ {B : Type 0} (m : Members B) (path bytes : List ℕ) (before after : Sight B) (answer : Answer) where
@@ -146,23 +164,30 @@ module _ {B : Type 0} (m : Members B) (path bytes : List ℕ) (before after : Si
   closed_held : Shows (held m before.stores.catalog) HoldsCatalog → NotOpened answer (m.seen before.stores.catalog) → IsGood area.Catalog bytes answer
   closed_held has closed = of_store_good answer bytes (closed.of_store has.2.0 has.2.1 (record { lawful = has.2.2; store = (has.0, has.1, has.2.3) }))
 
-  pub catalog_held : HasCatalogDocument (without_query path) bytes (held m before.stores.catalog) → Acts → IsGood area.Catalog bytes answer
+  pub catalog_held : HasCatalogDocument path bytes (held m before.stores.catalog) → Acts → IsGood area.Catalog bytes answer
   catalog_held has (inl closed) = let holds = has.2.2 in closed_held (has.2.0, has.2.1, (holds.0, holds.1, holds.2, holds.3)) closed.0
   catalog_held has (inr reads) =
-      by_catalog m answer (without_query path) bytes (m.seen before.stores.catalog) (hive_stores before.stores)
+      by_catalog m answer path bytes (m.seen before.stores.catalog) (hive_stores before.stores)
       (hive_stores after.stores) has.0 has.2.0 has.2.1 has.2.2 has.1 reads
 
-  pub hive_held : (hive : ServedHive) → HasHiveDocument hive (without_query path) bytes (held m before.stores.catalog)
+  pub index_held : HasIndex path bytes (held m before.stores.catalog) → Acts → IsGood area.Catalog bytes answer
+  index_held has (inl closed) = let holds = has.1.2 in closed_held (has.1.0, has.1.1, (holds.0, holds.1, holds.2, holds.3)) closed.0
+  index_held has (inr reads) =
+      by_index m answer path bytes (m.seen before.stores.catalog) (hive_stores before.stores)
+      (hive_stores after.stores) has.1.0 has.1.1 has.1.2 has.0 reads
+
+  pub hive_held : (hive : ServedHive) → HasHiveDocument hive path bytes (held m before.stores.catalog)
       (held m (hive_stores before.stores hive)) → Acts
       → IsGood area.Catalog bytes answer ⊎ IsGood (hive_area hive) bytes answer
   hive_held hive has (inl closed) = inl (closed_held has.2 closed.0)
   hive_held hive has (inr reads) =
-      inr (by_hive_name m answer (without_query path) bytes (m.seen before.stores.catalog) (hive_stores before.stores)
+      inr (by_name m answer path bytes (m.seen before.stores.catalog) (hive_stores before.stores)
       (hive_stores after.stores) hive has.0 has.3.0 has.3.1 has.3.2 has.1 reads)
 
   answers : IsHeld m path bytes before → Acts → IsDocument bytes answer
   answers (inl has) acts = inl (catalog_held has acts)
-  answers (inr (hive, has)) acts = ⊎_elim (λ good. inl good) (λ good. inr (hive, good)) (hive_held hive has acts)
+  answers (inr (inl has)) acts = inl (index_held has acts)
+  answers (inr (inr (hive, has))) acts = ⊎_elim (λ good. inl good) (λ good. inr (hive, good)) (hive_held hive has acts)
 
 -- such an answer has the status 0, 4 or 8
 good_status : (name : AreaName) (bytes : List ℕ) (answer : Answer) → IsGood name bytes answer

@@ -1,9 +1,8 @@
 -- What follows for `job`.
-use Rattle.std.proofs.Common.{◌≡◌, ◌⊎◌, ◌≤◌, ℕ, List, Ok, Err, Option, Result, IfErr, IfSome, IsErrOf, inl, inr, ⊎_elim, refl, sym, ◌∙◌, ap, subst, arith}
+use Rattle.std.proofs.Common.{◌≡◌, ◌⊎◌, ℕ, List, Ok, Err, Option, Result, IfErr, IsErrOf, inl, inr, ⊎_elim, refl, sym, ap, subst, arith}
 use Rattle.feed_base.specs.Counts.{CountsFault, HasRisen, raised}
 use Rattle.blob_store.specs.Area.{Area}
 use Rattle.blob_store.specs.Seen.{Seen}
-use Rattle.pkg_meta.specs.Catalog.{Catalog}
 use Rattle.catalog_items.proofs.Getting.{counts_as}
 use Rattle.catalog_core.specs.Framing.{StaysOpen}
 use Rattle.catalog_core.specs.Opened.{Opened}

@@ -1,15 +1,14 @@
 pub mod Absent
+pub mod Asked
 pub mod BlobTexts
 pub mod Calls
 pub mod Closed
 pub mod CommittedNames
 pub mod Cursors
-pub mod Cuts
 pub mod Ended
 pub mod Endings
 pub mod Gets
 pub mod Holding
-pub mod HostNames
 pub mod Inits
 pub mod Jobs
 pub mod Left
@@ -18,5 +17,5 @@ pub mod OneHive
 pub mod Places
 pub mod Publishes
 pub mod Served
-pub mod Tested
+pub mod Unasked
 pub mod Unread

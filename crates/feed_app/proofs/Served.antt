@@ -1,14 +1,13 @@
 -- A document that is held is written.
 use Rattle.std.proofs.Common.{◌≡◌, ◌⊎◌, ℕ, List, Some, inl, inr, ⊎_elim, ◌∙◌, ap, subst}
-use Rattle.feed_paths.specs.Paths.{without_query}
-use Rattle.feed_paths.specs.declared.hives.ServedHive.{ServedHive}
+use Rattle.feed_app.specs.declared.hives.ServedHive.{ServedHive}
 use Rattle.admin_wire.specs.declared.line.Line.TheVariants as line
 use Rattle.admin_wire.specs.declared.area.AreaName.{AreaName}
 use Rattle.admin_wire.specs.declared.area.AreaName.TheVariants as area
 use Rattle.feed_app.specs.Answers.{answer_status, answer_text}
 use Rattle.feed_app.specs.Commands.{Get, command_of}
 use Rattle.feed_app.specs.Frame.{Explains, IsDone}
-use Rattle.feed_app.specs.Gets.{HasCatalogDocument, HasHiveDocument, IsServed, get_meaning}
+use Rattle.feed_app.specs.Gets.{HasCatalogDocument, HasHiveDocument, HasIndex, IsServed, get_meaning}
 use Rattle.feed_app.specs.Hives.{hive_area, hive_stores}
 use Rattle.feed_app.specs.Outside.{AreaRose, Bounds, Outside, Rose, Stream, area_of, held, output_of, sight}
 use Rattle.feed_app.specs.Runs.{RunsCommand}
@@ -16,7 +15,7 @@ use Rattle.feed_app.specs.Writes.{HasMore, WritesAnswer}
 use Rattle.feed_app.specs.declared.answer.Answer.{Answer}
 use Rattle.feed_app.specs.declared.answer.Answer.TheVariants.{Document, Reply}
 use Rattle.feed_app.proofs.Calls.{done}
-use Rattle.feed_app.proofs.Gets.{IsGood, catalog_held, hive_held}
+use Rattle.feed_app.proofs.Gets.{IsGood, catalog_held, hive_held, index_held}
 use Rattle.feed_app.proofs.Places.{of_area}
 
 -- the answer's text went out, or memory ran out
@@ -47,13 +46,19 @@ module _ {B I O C : Type 0} (b : Bounds B I O C) (words : List (List ℕ)) (path
   abbrev Served : Type 0
   Served = IsServed bytes status (output_of b.sink before.output) (output_of b.sink after.output)
 
-  pub catalog_served : HasCatalogDocument (without_query path) bytes (held b.blobs before.stores.catalog)
+  pub catalog_served : HasCatalogDocument path bytes (held b.blobs before.stores.catalog)
       → (AreaRose b.blobs before.stores.catalog after.stores.catalog → ⊥) → (OutputRose → ⊥) → Served
   catalog_served has still quiet =
       written run.answer bytes status (output_of b.sink before.output) (output_of b.sink after.output)
       (sure area.Catalog still (catalog_held b.blobs path bytes (sight b before) (sight b after) run.answer has its.acts)) quiet run.writes
 
-  pub hive_served : (hive : ServedHive) → HasHiveDocument hive (without_query path) bytes (held b.blobs before.stores.catalog)
+  pub index_served : HasIndex path bytes (held b.blobs before.stores.catalog)
+      → (AreaRose b.blobs before.stores.catalog after.stores.catalog → ⊥) → (OutputRose → ⊥) → Served
+  index_served has still quiet =
+      written run.answer bytes status (output_of b.sink before.output) (output_of b.sink after.output)
+      (sure area.Catalog still (index_held b.blobs path bytes (sight b before) (sight b after) run.answer has its.acts)) quiet run.writes
+
+  pub hive_served : (hive : ServedHive) → HasHiveDocument hive path bytes (held b.blobs before.stores.catalog)
       (held b.blobs (hive_stores before.stores hive))
       → (AreaRose b.blobs before.stores.catalog after.stores.catalog → ⊥)
       → (AreaRose b.blobs (hive_stores before.stores hive) (hive_stores after.stores hive) → ⊥) → (OutputRose → ⊥) → Served

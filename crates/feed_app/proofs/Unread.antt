@@ -9,7 +9,7 @@ use Rattle.catalog_doc.specs.Documents.{index_text}
 use Rattle.catalog_doc.specs.Names.{index_name, leaf_name, staged_name}
 use Rattle.catalog_opening.specs.Openings.{IsMended}
 use Rattle.catalog_core.specs.Framing.{StaysOpen}
-use Rattle.catalog_core.specs.Opened.{IsOpenFor, IsUnsettled, Opened}
+use Rattle.catalog_core.specs.Opened.{IsOpenFor, Opened}
 use Rattle.cursor_doc.specs.Cursor.{cursor_name}
 use Rattle.job_round.specs.Answers.{IsLostInCatalog, IsLostInHive}
 use Rattle.job_round.specs.Cursors.{IsDamagedCursor}

@@ -1,11 +1,11 @@
 -- What a list of words means.
-use Rattle.std.specs.Prelude.{ℕ, List, [], ◌∷◌, codes, length, map, Option, Some, None, option_map, String, string_bytes, if◌then◌else◌, ◌&&◌, ◌==◌, ◌%◌, ⊤}
+use Rattle.std.specs.Prelude.{ℕ, List, [], ◌∷◌, codes, length, map, Option, Some, None, option_map, String, string_bytes, if◌then◌else◌, ◌==◌, ◌%◌, ⊤}
 use Rattle.std.specs.Str.{bytes_eq}
 use Rattle.std.specs.declared.alloc.Global.{Global}
 use Rattle.admin_wire.specs.declared.names.NameKind.{NameKind}
 use Rattle.admin_wire.specs.declared.names.NameKind.TheVariants.{Unlist, Relist, Delete}
 use Rattle.fold_core.specs.declared.hive.HiveName.{HiveName}
-use Rattle.feed_app.specs.Bases.{is_base}
+use Rattle.feed_routes.specs.Bases.{is_base_address}
 use Rattle.feed_app.specs.Hives.{hive_by_word}
 use Rattle.feed_app.specs.declared.words.Command as code
 use Rattle.feed_app.specs.declared.words.Command.TheVariants as code_of
@@ -51,9 +51,13 @@ asked (code_of.Get path) = Get path.now
 abbrev pub of_one_word : List ℕ → Option Command
 of_one_word word = if bytes_eq word (codes "publish") then Some Publish else None
 
+-- `init` is given a base address
+abbrev pub init_with : List ℕ → Option Command
+init_with base = if is_base_address base then Some (Init base) else None
+
 abbrev pub of_two_words : List ℕ → List ℕ → Option Command
 of_two_words word object =
-    if bytes_eq word (codes "init") && is_base object then Some (Init object) else
+    if bytes_eq word (codes "init") then init_with object else
     if bytes_eq word (codes "job") then option_map Job (hive_by_word object) else
     if bytes_eq word (codes "cursor") then option_map Cursor (hive_by_word object) else
     if bytes_eq word (codes "get") then Some (Get object) else

@@ -1,5 +1,6 @@
 -- What a command does.
-use Rattle.std.specs.Prelude.{◌≡◌, Option, None, Some}
+use Rattle.std.specs.Prelude.{◌≡◌, ◌⊎◌, Option, None, Some}
+use Rattle.admin_wire.specs.declared.line.Line.TheVariants as line
 use Rattle.feed_app.specs.Commands.{Command, Init, Get, Publish, Names, Job, Cursor}
 use Rattle.feed_app.specs.Frame.{Meaning, IsDone, Reach, nothing}
 use Rattle.feed_app.specs.Outside.{Members, Sight}
@@ -10,7 +11,7 @@ use Rattle.feed_app.specs.Jobs.{job_meaning}
 use Rattle.feed_app.specs.Names.{names_meaning}
 use Rattle.feed_app.specs.Publishes.{publish_meaning}
 use Rattle.feed_app.specs.declared.answer.Answer.{Answer}
-use Rattle.feed_app.specs.declared.answer.Answer.TheVariants.{Usage}
+use Rattle.feed_app.specs.declared.answer.Answer.TheVariants.{Reply, Usage}
 
 abbrev pub meaning : {B : Type 0} → Members B → Command → Meaning B
 meaning m (Init base) = init_meaning m base
@@ -25,7 +26,7 @@ abbrev pub reach_of : {B : Type 0} → Members B → Option Command → Reach
 reach_of m None = nothing
 reach_of m (Some command) = (meaning m command).reach
 
--- words without a meaning touch nothing
+-- words without a meaning touch nothing, nor do words for whose reading there is no memory
 abbrev pub Does : {B : Type 0} → Members B → Option Command → Sight B → Answer → Sight B → Type 0
-Does m None before answer after = (answer ≡ Usage) × (after ≡ before)
+Does m None before answer after = ((answer ≡ Usage) ⊎ (answer ≡ Reply line.Memory)) × (after ≡ before)
 Does m (Some command) before answer after = IsDone m (meaning m command) before answer after

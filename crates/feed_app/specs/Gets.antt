@@ -1,6 +1,6 @@
 -- The command `get`. The conditions of an answer hold those of the steps before it: the opening of the catalog, and what
 -- the path names.
-use Rattle.std.specs.Prelude.{◌≡◌, ◌⊎◌, ◌++◌, ℕ, List, Option, Some, None, IfSome, codes, if◌then◌else◌, nat_eq, ⊤}
+use Rattle.std.specs.Prelude.{◌≡◌, ◌⊎◌, ℕ, List, Option, Some, None, IfSome, if◌then◌else◌, nat_eq, ⊤}
 use Rattle.std.specs.FinMap.{get}
 use Rattle.std.specs.List.{starts_with}
 use Rattle.blob_store.specs.Area.{Area}
@@ -9,10 +9,12 @@ use Rattle.pkg_meta.specs.Catalog.{Catalog}
 use Rattle.catalog_doc.specs.CatDocs.{doc_at}
 use Rattle.catalog_doc.specs.Catalogs.{IsCatalog}
 use Rattle.catalog_doc.specs.Spelled.{SpellsCatalog}
-use Rattle.feed_paths.specs.Hives.{served_under}
-use Rattle.feed_paths.specs.Paths.{IsCatalogPath, IsHivePath, IsNotYet, IsOfNone, without_query}
-use Rattle.feed_paths.specs.declared.hives.ServedHive.{ServedHive}
-use Rattle.feed_paths.specs.declared.hives.ServedHive.TheVariants.{Plain, SemVer2, Content}
+use Rattle.feed_app.specs.Hives.{served_under}
+use Rattle.feed_routes.specs.Cuts.{target_path}
+use Rattle.feed_routes.specs.Index.{service_index_text}
+use Rattle.feed_routes.specs.Table.{IsUnknown}
+use Rattle.feed_app.specs.declared.hives.ServedHive.{ServedHive}
+use Rattle.feed_app.specs.declared.hives.ServedHive.TheVariants.{Plain, SemVer2, Content}
 use Rattle.admin_wire.specs.declared.area.AreaName.TheVariants as area
 use Rattle.admin_wire.specs.declared.line.Line.TheVariants as line
 use Rattle.admin_wire.specs.declared.line.Refusal.TheVariants as refusal
@@ -21,13 +23,10 @@ use Rattle.feed_app.specs.Hives.{KeepsAll, KeepsOthers, hive_area, hive_stores}
 use Rattle.feed_app.specs.Openings.{NotOpened}
 use Rattle.feed_app.specs.Outside.{Members, Sight, Stream, Shows, held}
 use Rattle.feed_app.specs.Spelled.{ForEach, HasCatalog, HoldsCatalog, Of}
+use Rattle.feed_app.specs.Targets.{IsCatalogPath, IsHivePath, IsIndexPath, IsServerPath}
 use Rattle.feed_app.specs.Writes.{HasMore}
 use Rattle.feed_app.specs.declared.answer.Answer.{Answer}
 use Rattle.feed_app.specs.declared.answer.Answer.TheVariants.{Reply, Document}
-
--- the name in its area of the hive's document that a path names
-abbrev pub stored_name : List ℕ → List ℕ
-stored_name rest = codes "d/" ++ rest
 
 -- what is answered of a document that a catalog has, or hasn't
 abbrev pub OfDocument : Answer → Option (List ℕ) → Type 0
@@ -53,44 +52,58 @@ pub record OfCatalog (answer : Answer) (name : List ℕ) (Is : Of) : Type 0 wher
 
 -- what is answered of a hive's document of a name
 abbrev pub OfHive : ServedHive → Answer → List ℕ → Option Area → Type 0
-OfHive hive (Document bytes) rest told = IfSome told (λ m. get m (stored_name rest) ≡ Some bytes)
-OfHive hive (Reply (line.Refused refusal.Missing)) rest told = IfSome told (λ m. get m (stored_name rest) ≡ None)
-OfHive hive (Reply (line.Fault name)) rest told = name ≡ hive_area hive
-OfHive hive (Reply line.Memory) rest told = ⊤
-OfHive hive _ rest told = ⊥
+OfHive hive (Document bytes) name told = IfSome told (λ m. get m name ≡ Some bytes)
+OfHive hive (Reply (line.Refused refusal.Missing)) name told = IfSome told (λ m. get m name ≡ None)
+OfHive hive (Reply (line.Fault failed)) name told = failed ≡ hive_area hive
+OfHive hive (Reply line.Memory) name told = ⊤
+OfHive hive _ name told = ⊥
 
--- what is answered by what the path names, where only a document of a hive asks a hive's area, its own
+-- the answer is the service index of the base address of each catalog of this kind
+abbrev pub OfIndex : Answer → Of → Type 0
+OfIndex answer Is = (bytes : List ℕ) × (answer ≡ Document bytes) × ForEach Is (λ base cs. service_index_text base ≡ bytes)
+
+-- what is answered by what the path asks for, where only a document of a hive asks a hive's area, its own
 abbrev pub AnswersPath : {B : Type 0} → Members B → Answer → List ℕ → Of → (ServedHive → B) → (ServedHive → B) → Type 0
 AnswersPath m answer path Is old new =
-    ((hive : ServedHive) × (rest : List ℕ) × IsHivePath hive path rest × OfHive hive answer rest (held m (old hive)) × KeepsOthers hive old new)
+    ((hive : ServedHive) × (name : List ℕ) × IsHivePath hive path name × OfHive hive answer name (held m (old hive)) × KeepsOthers hive old new)
     ⊎ (KeepsAll old new
     × (((name : List ℕ) × IsCatalogPath path name × OfCatalog answer name Is)
-    ⊎ ((IsNotYet path × (answer ≡ Reply (line.Refused refusal.Unsupported)))
-    ⊎ ((IsOfNone path × (answer ≡ Reply (line.Refused refusal.Missing)))
-    ⊎ (answer ≡ Reply line.Memory)))))
+    ⊎ ((IsIndexPath path × OfIndex answer Is)
+    ⊎ ((IsServerPath path × (answer ≡ Reply (line.Refused refusal.Served)))
+    ⊎ ((IsUnknown path × (answer ≡ Reply (line.Refused refusal.Missing)))
+    ⊎ (answer ≡ Reply line.Memory))))))
 
 -- what a `get` answers: of an area that opens no catalog, or of one that is open
 abbrev pub Gets : {B : Type 0} → Members B → Answer → List ℕ → Seen → (ServedHive → B) → (ServedHive → B) → Type 0
 Gets m answer path catalog old new =
-    (NotOpened answer catalog × KeepsAll old new) ⊎ AnswersPath m answer (without_query path) (HasCatalog catalog) old new
+    (NotOpened answer catalog × KeepsAll old new) ⊎ AnswersPath m answer path (HasCatalog catalog) old new
 
 -- the area spells a catalog that has this document
 abbrev pub HoldsDocument : Area → List ℕ → List ℕ → Type 0
 HoldsDocument m name bytes = (base : List ℕ) × (cs : Catalog) × IsCatalog cs × SpellsCatalog m base cs × (doc_at base cs name ≡ Some bytes)
 
+-- the area spells a catalog below a base address that has this service index
+abbrev pub HoldsIndex : Area → List ℕ → Type 0
+HoldsIndex m bytes = (base : List ℕ) × (cs : Catalog) × IsCatalog cs × SpellsCatalog m base cs × (service_index_text base ≡ bytes)
+
 -- the path names a document of the catalog that the catalog's area spells
 abbrev pub HasCatalogDocument : List ℕ → List ℕ → Option Area → Type 0
 HasCatalogDocument path bytes catalog = (name : List ℕ) × IsCatalogPath path name × Shows catalog (λ m. HoldsDocument m name bytes)
 
+-- the path asks for the service index of the base address of the catalog that the catalog's area spells
+abbrev pub HasIndex : List ℕ → List ℕ → Option Area → Type 0
+HasIndex path bytes catalog = IsIndexPath path × Shows catalog (λ m. HoldsIndex m bytes)
+
 -- the path names a document of this hive, whose area holds it so beside a catalog
 abbrev pub HasHiveDocument : ServedHive → List ℕ → List ℕ → Option Area → Option Area → Type 0
-HasHiveDocument hive path bytes catalog area = (rest : List ℕ) × IsHivePath hive path rest
-    × Shows catalog HoldsCatalog × Shows area (λ m. get m (stored_name rest) ≡ Some bytes)
+HasHiveDocument hive path bytes catalog area = (name : List ℕ) × IsHivePath hive path name
+    × Shows catalog HoldsCatalog × Shows area (λ m. get m name ≡ Some bytes)
 
--- the path names a document that is held with these bytes
+-- the path asks for a document that is held with these bytes, or for the service index, which has them
 abbrev pub IsHeld : {B : Type 0} → Members B → List ℕ → List ℕ → Sight B → Type 0
-IsHeld m path bytes before = HasCatalogDocument (without_query path) bytes (held m before.stores.catalog)
-    ⊎ ((hive : ServedHive) × HasHiveDocument hive (without_query path) bytes (held m before.stores.catalog) (held m (hive_stores before.stores hive)))
+IsHeld m path bytes before = HasCatalogDocument path bytes (held m before.stores.catalog)
+    ⊎ (HasIndex path bytes (held m before.stores.catalog)
+    ⊎ ((hive : ServedHive) × HasHiveDocument hive path bytes (held m before.stores.catalog) (held m (hive_stores before.stores hive))))
 
 -- these bytes went out, with status 0, or memory ran out
 abbrev pub IsServed : List ℕ → ℕ → Stream → Stream → Type 0
@@ -107,7 +120,7 @@ get_reach path = record nothing { catalog = Opens; plain = asked_under path Plai
 -- it is done where the path names a document that is held
 abbrev pub get_meaning : {B : Type 0} → Members B → List ℕ → Meaning B
 get_meaning m path = record {
-  reach = get_reach (without_query path);
+  reach = get_reach (target_path path);
   ready = λ before. (bytes : List ℕ) × IsHeld m path bytes before;
   acts = λ before answer after. Gets m answer path (m.seen before.stores.catalog) (hive_stores before.stores) (hive_stores after.stores);
 }

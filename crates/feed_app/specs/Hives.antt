@@ -1,5 +1,5 @@
 -- The hives of the program: where each stands, and what it makes of a catalog.
-use Rattle.std.specs.Prelude.{◌≡◌, ℕ, List, Option, Some, None, if◌then◌else◌}
+use Rattle.std.specs.Prelude.{◌≡◌, ℕ, List, codes, Option, Some, None, if◌then◌else◌}
 use Rattle.std.specs.Str.{bytes_eq}
 use Rattle.admin_wire.specs.Lines.{hive_text}
 use Rattle.auto_docs.specs.Documents.{auto_docs, keeps_listed}
@@ -11,12 +11,18 @@ use Rattle.flat_container.specs.Documents.{content_docs, keeps_all}
 use Rattle.reg_docs.specs.Documents.{registration_docs}
 use Rattle.reg_docs.specs.Entries.{keeps_every, keeps_plain}
 use Rattle.reg_docs.specs.declared.addresses.RegistrationHive.TheVariants as registration
-use Rattle.feed_paths.specs.declared.hives.ServedHive.{ServedHive}
-use Rattle.feed_paths.specs.declared.hives.ServedHive.TheVariants.{Plain, SemVer2, Content}
+use Rattle.feed_app.specs.declared.hives.ServedHive.{ServedHive}
+use Rattle.feed_app.specs.declared.hives.ServedHive.TheVariants.{Plain, SemVer2, Content}
 use Rattle.admin_wire.specs.declared.area.AreaName.{AreaName}
 use Rattle.admin_wire.specs.declared.area.AreaName.TheVariants as area
 use Rattle.fold_core.specs.declared.hive.HiveName.{HiveName}
 use Rattle.fold_core.specs.declared.hive.HiveName.TheVariants as hives
+
+-- what the path of each of its documents begins with
+abbrev pub served_under : ServedHive → List ℕ
+served_under Plain = codes "/v3/registration/"
+served_under SemVer2 = codes "/v3/registration-semver2/"
+served_under Content = codes "/v3/flat/"
 
 -- its name in reply lines
 abbrev pub hive_name : ServedHive → HiveName

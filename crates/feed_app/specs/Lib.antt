@@ -1,6 +1,5 @@
 pub mod Accepts
 pub mod Answers
-pub mod Bases
 pub mod Causes
 pub mod Commands
 pub mod Cursors
@@ -17,4 +16,5 @@ pub mod Outside
 pub mod Publishes
 pub mod Runs
 pub mod Spelled
+pub mod Targets
 pub mod Writes

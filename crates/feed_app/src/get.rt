@@ -1,24 +1,26 @@
 // The command `get`.
-ghost use Rattle.std.specs.Prelude.{◌≡◌, ℕ, List, Option};
+ghost use Rattle.std.specs.Prelude.{◌≡◌, ◌⊎◌, ℕ, List, Option};
 ghost use Rattle.feed_base.specs.Counts.{HasRisen};
 ghost use Rattle.pkg_meta.specs.declared.commit.Stored.{Stored};
 ghost use Rattle.catalog_doc.specs.CatDocs.{doc_at};
 ghost use Rattle.catalog_core.specs.Framing.{StaysOpen};
 ghost use Rattle.catalog_core.specs.Opened.{IsOpenFor};
-ghost use Rattle.feed_paths.specs.Paths.{without_query};
-ghost use Rattle.feed_paths.specs.declared.hives.ServedHive.{ServedHive};
+ghost use Rattle.feed_routes.specs.Cuts.{target_path};
+ghost use Rattle.feed_routes.specs.Index.{service_index_text};
+ghost use Rattle.feed_app.specs.declared.hives.ServedHive.{ServedHive};
 ghost use Rattle.feed_app.specs.Frame.{IsDone, KeepsArea};
 ghost use Rattle.feed_app.specs.Gets.{IsOfCatalog, OfDocument, OfHive, AnswersPath, asked_under, get_meaning};
-ghost use Rattle.feed_app.specs.Hives.{by_hive, hive_area};
-ghost use Rattle.feed_app.specs.Outside.{AreaRose, Stream, over};
+ghost use Rattle.feed_app.specs.Hives.{KeepsOthers, by_hive, hive_area};
+ghost use Rattle.feed_app.specs.Outside.{AreaRose, Stream, held, over};
 ghost use Rattle.feed_app.specs.Spelled.{IsOpenAs};
 
 use crate::answer::Answer;
-use crate::hives::hive_name;
+use crate::hives::{ServedHive, hive_name};
+use crate::target::{Target, target_of};
 use admin_wire::{AreaName, Line, Refusal};
 use blob_store::{BlobErr, Blobs};
 use catalog_core::{Catalog, Stores, open_catalog};
-use feed_paths::{ServedHive, Target, target_of};
+use feed_routes::service_index;
 use pkg_meta::NoMemory;
 use std::alloc::Global;
 
@@ -37,20 +39,49 @@ fn catalog_document<B: Blobs>(alloc: Global, catalog: &mut Catalog<B>, name: &st
     }
 }
 
-// The hive's document of this name behind its `d/`.
-fn hive_document<B: Blobs>(alloc: Global, area: &mut B, hive: ServedHive, rest: &str) -> Answer
-    ensures is { OfHive hive result rest.now (B.seen area.old).held }
+// The service index of this base address.
+fn index_document(alloc: Global, base: &str) -> Answer
+    ensures { (result ≡ Answer.Document (service_index_text base.now)) ⊎ (result ≡ Answer.Reply Line.Memory) }
+{
+    match service_index(alloc, base) {
+        Ok(bytes) => Answer::Document(bytes),
+        Err(NoMemory) => Answer::Reply(Line::Memory),
+    }
+}
+
+// The document of this name in the hive's area.
+fn hive_document<B: Blobs>(alloc: Global, area: &mut B, hive: ServedHive, name: &str) -> Answer
+    ensures is { OfHive hive result name.now (B.seen area.old).held }
     ensures cause { result ≡ Answer.Reply (Line.Fault (hive_area hive)) → HasRisen (B.seen area.old).faults (B.seen area.new).faults }
     ensures same { (B.seen area.new).held ≡ (B.seen area.old).held }
 {
-    let Ok(name) = format!(in alloc; "d/{rest}") else {
-        return Answer::Reply(Line::Memory);
-    };
-    match area.get(alloc, &name) {
+    match area.get(alloc, name) {
         Ok(Some(bytes)) => Answer::Document(bytes),
         Ok(None) => Answer::Reply(Line::Refused(Refusal::Missing)),
         Err(BlobErr::Failed) => Answer::Reply(Line::Fault(AreaName::Hive(hive_name(hive)))),
         Err(BlobErr::Memory) => Answer::Reply(Line::Memory),
+    }
+}
+
+// The document of this name in the area of this hive, which is one of the three.
+fn from_hive<B: Blobs>(
+    alloc: Global,
+    plain: &mut B,
+    semver2: &mut B,
+    content: &mut B,
+    hive: ServedHive,
+    name: &str,
+) -> Answer
+    ensures is { OfHive hive result name.now (held B.Blobs (by_hive plain.old semver2.old content.old hive)) }
+    ensures cause { result ≡ Answer.Reply (Line.Fault (hive_area hive))
+        → AreaRose B.Blobs (by_hive plain.old semver2.old content.old hive) (by_hive plain.new semver2.new content.new hive) }
+    ensures same { held B.Blobs (by_hive plain.new semver2.new content.new hive) ≡ held B.Blobs (by_hive plain.old semver2.old content.old hive) }
+    ensures others { KeepsOthers hive (by_hive plain.old semver2.old content.old) (by_hive plain.new semver2.new content.new) }
+{
+    match hive {
+        ServedHive::Plain => hive_document(alloc, plain, hive, name),
+        ServedHive::SemVer2 => hive_document(alloc, semver2, hive, name),
+        ServedHive::Content => hive_document(alloc, content, hive, name),
     }
 }
 
@@ -63,24 +94,23 @@ fn document<B: Blobs>(
     content: &mut B,
     path: &str,
 ) -> Answer
-    ensures is { AnswersPath B.Blobs result (without_query path.now) (IsOpenAs catalog.old (B.seen catalog.old.area))
+    ensures is { AnswersPath B.Blobs result path.now (IsOpenAs catalog.old (B.seen catalog.old.area))
         (by_hive plain.old semver2.old content.old) (by_hive plain.new semver2.new content.new) }
     ensures stays { StaysOpen catalog.old catalog.new (B.seen catalog.old.area) (B.seen catalog.new.area)
         (result ≡ Answer.Reply (Line.Fault AreaName.Catalog)) }
     ensures hive_cause { (hive : ServedHive) → result ≡ Answer.Reply (Line.Fault (hive_area hive))
         → AreaRose B.Blobs (by_hive plain.old semver2.old content.old hive) (by_hive plain.new semver2.new content.new hive) }
-    ensures keeps { (hive : ServedHive) → KeepsArea B.Blobs (asked_under (without_query path.now) hive)
+    ensures keeps { (hive : ServedHive) → KeepsArea B.Blobs (asked_under (target_path path.now) hive)
         (by_hive plain.old semver2.old content.old hive) (by_hive plain.new semver2.new content.new hive) }
 {
     match target_of(alloc, path) {
-        Ok(Target::Catalog(name)) => catalog_document(alloc, catalog, name),
-        Ok(Target::Hive(hive, rest)) => match hive {
-            ServedHive::Plain => hive_document(alloc, plain, hive, rest),
-            ServedHive::SemVer2 => hive_document(alloc, semver2, hive, rest),
-            ServedHive::Content => hive_document(alloc, content, hive, rest),
-        },
-        Ok(Target::NotYet) => Answer::Reply(Line::Refused(Refusal::Unsupported)),
-        Ok(Target::Nothing) => Answer::Reply(Line::Refused(Refusal::Missing)),
+        Ok(Target::Index) => index_document(alloc, catalog.base()),
+        Ok(Target::Catalog(name)) => catalog_document(alloc, catalog, name.as_str()),
+        Ok(Target::Hive(hive, name)) => {
+            from_hive(alloc, plain, semver2, content, hive, name.as_str())
+        }
+        Ok(Target::Served) => Answer::Reply(Line::Refused(Refusal::Served)),
+        Ok(Target::Unknown) => Answer::Reply(Line::Refused(Refusal::Missing)),
         Err(NoMemory) => Answer::Reply(Line::Memory),
     }
 }

@@ -1,9 +1,19 @@
-// The names of the hives.
+// The hives, those whose documents are served, and their names.
 ghost use Rattle.std.specs.Prelude.{◌≡◌};
 ghost use Rattle.feed_app.specs.Hives.{hive_name, hive_by_word};
 
-use feed_paths::ServedHive;
 use fold_core::HiveName;
+
+/// A hive whose documents are served.
+#[derive(Clone, Copy, Debug, PartialEq, Eq)]
+pub enum ServedHive {
+    /// The registrations without SemVer 2.0.0 packages.
+    Plain,
+    /// The registrations of all packages.
+    SemVer2,
+    /// The package content.
+    Content,
+}
 
 /// The name of a hive whose documents are served.
 pub(crate) fn hive_name(hive: ServedHive) -> HiveName

@@ -3,7 +3,6 @@
 #![tactic(auto)]
 
 mod answer;
-mod base;
 mod causes;
 mod commit_laws;
 mod committing;
@@ -19,6 +18,7 @@ mod laws;
 mod names;
 mod publish;
 mod run;
+mod target;
 mod words;
 
 pub use admin_wire::{AreaName, Line, NameKind, Refusal};

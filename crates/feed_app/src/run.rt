@@ -15,9 +15,11 @@ use crate::job::job;
 use crate::names::commit_names;
 use crate::publish::publish;
 use crate::words::{Command, meaning_of};
+use admin_wire::Line;
 use blob_store::Blobs;
 use catalog_core::Stores;
 use feed_base::{Clock, Sink, Source, Status};
+use pkg_meta::NoMemory;
 use std::alloc::Global;
 
 // Does what the words say, but for the writing.
@@ -33,14 +35,15 @@ fn act<B: Blobs, I: Source, C: Clock>(
     ensures unread { KeepsValue (reach_of B.Blobs (command_of (texts words.now))).input input.old input.new }
     ensures unasked { KeepsValue (reach_of B.Blobs (command_of (texts words.now))).clock clock.old clock.new }
 {
-    match meaning_of(words) {
-        None => (Answer::Usage, stores),
-        Some(Command::Init(base)) => init(alloc, stores, base),
-        Some(Command::Publish) => publish(alloc, stores, input, clock),
-        Some(Command::Names(kind, words)) => commit_names(alloc, stores, kind, words, clock),
-        Some(Command::Job(hive)) => job(alloc, stores, hive),
-        Some(Command::Cursor(hive)) => cursor(alloc, stores, hive),
-        Some(Command::Get(path)) => get(alloc, stores, path),
+    match meaning_of(alloc, words) {
+        Err(NoMemory) => (Answer::Reply(Line::Memory), stores),
+        Ok(None) => (Answer::Usage, stores),
+        Ok(Some(Command::Init(base))) => init(alloc, stores, base),
+        Ok(Some(Command::Publish)) => publish(alloc, stores, input, clock),
+        Ok(Some(Command::Names(kind, words))) => commit_names(alloc, stores, kind, words, clock),
+        Ok(Some(Command::Job(hive))) => job(alloc, stores, hive),
+        Ok(Some(Command::Cursor(hive))) => cursor(alloc, stores, hive),
+        Ok(Some(Command::Get(path))) => get(alloc, stores, path),
     }
 }
 

@@ -1,11 +1,14 @@
 // What the words of a command mean.
-ghost use Rattle.std.specs.Prelude.{◌≡◌, ◌≢◌, ◌≤◌, ◌∷◌, [], ℕ, List, length, map, option_map, string_bytes, IfSome, IfNone};
-ghost use Rattle.feed_app.specs.Commands.{command_of, name_kind, of_one_word, of_two_words, of_more_words, asked, texts};
+ghost use Rattle.std.specs.Prelude.{◌≡◌, ◌≢◌, ◌≤◌, ◌∷◌, [], ℕ, List, length, map, option_map, string_bytes, IfOk, IfSome, IfNone};
+ghost use Rattle.feed_app.specs.Hives.{hive_by_word};
+ghost use Rattle.feed_app.specs.Commands.{Job, Cursor, command_of, init_with, name_kind, of_one_word, of_two_words, of_more_words, asked, texts};
 
-use crate::base::is_base;
 use crate::hives::hive_by_word;
 use admin_wire::NameKind;
+use feed_routes::base_ok;
 use fold_core::HiveName;
+use pkg_meta::NoMemory;
+use std::alloc::Global;
 
 /// What the words of a command ask for.
 #[derive(Clone, Copy)]
@@ -56,16 +59,51 @@ fn meaning_of_one<'a>(word: &str) -> Option<Command<'a>>
     }
 }
 
+// What `init` with this word means.
+fn init_at(alloc: Global, base: &str) -> Result<Option<Command<'_>>, NoMemory>
+    ensures { IfOk result (λ found. option_map asked found ≡ init_with base.now) }
+{
+    if base_ok(alloc, base)? {
+        Ok(Some(Command::Init(base)))
+    } else {
+        Ok(None)
+    }
+}
+
+// What `job` with this word means.
+fn job_of(word: &str) -> Option<Command<'_>>
+    ensures { option_map asked result ≡ option_map Job (hive_by_word word.now) }
+{
+    match hive_by_word(word) {
+        Some(hive) => Some(Command::Job(hive)),
+        None => None,
+    }
+}
+
+// What `cursor` with this word means.
+fn cursor_of(word: &str) -> Option<Command<'_>>
+    ensures { option_map asked result ≡ option_map Cursor (hive_by_word word.now) }
+{
+    match hive_by_word(word) {
+        Some(hive) => Some(Command::Cursor(hive)),
+        None => None,
+    }
+}
+
 // What two words mean.
-fn meaning_of_two<'a>(word: &str, object: &'a str) -> Option<Command<'a>>
-    ensures { option_map asked result ≡ of_two_words word.now object.now }
+fn meaning_of_two<'a>(
+    alloc: Global,
+    word: &str,
+    object: &'a str,
+) -> Result<Option<Command<'a>>, NoMemory>
+    ensures { IfOk result (λ found. option_map asked found ≡ of_two_words word.now object.now) }
 {
     match word {
-        "init" if is_base(object) => Some(Command::Init(object)),
-        "job" => Some(Command::Job(hive_by_word(object)?)),
-        "cursor" => Some(Command::Cursor(hive_by_word(object)?)),
-        "get" => Some(Command::Get(object)),
-        _ => None,
+        "init" => init_at(alloc, object),
+        "job" => Ok(job_of(object)),
+        "cursor" => Ok(cursor_of(object)),
+        "get" => Ok(Some(Command::Get(object))),
+        _ => Ok(None),
     }
 }
 
@@ -103,15 +141,17 @@ fn meaning_of_more<'a>(word: &str, names: &'a [String]) -> Option<Command<'a>>
 }
 
 /// What the words mean, and nothing where they have no meaning.
-pub fn meaning_of(words: &[String]) -> Option<Command<'_>>
-    ensures { option_map asked result ≡ command_of (texts words.now) }
+pub fn meaning_of(alloc: Global, words: &[String]) -> Result<Option<Command<'_>>, NoMemory>
+    ensures { IfOk result (λ found. option_map asked found ≡ command_of (texts words.now)) }
 {
     if let Some(word) = one_word(words) {
-        return meaning_of_one(word);
+        return Ok(meaning_of_one(word));
     }
     if let Some((word, object)) = two_words(words) {
-        return meaning_of_two(word, object);
+        return meaning_of_two(alloc, word, object);
     }
-    let (word, names) = more_words(words)?;
-    meaning_of_more(word, names)
+    match more_words(words) {
+        Some((word, names)) => Ok(meaning_of_more(word, names)),
+        None => Ok(None),
+    }
 }

@@ -1,5 +1,4 @@
-//! Tests of stores, sources, sinks and clocks in memory, of a store in a folder, of the paths of documents, and of the
-//! bodies that `publish` takes.
+//! Tests of stores, sources, sinks and clocks in memory, of a store in a folder, and of the bodies that `publish` takes.
 //!
 //! This crate has nothing but tests: what a clause says is proved where the function stands.
 #![tactic(auto)]
@@ -12,5 +11,3 @@ mod bodies;
 mod folders;
 #[cfg(test)]
 mod outside;
-#[cfg(test)]
-mod paths;

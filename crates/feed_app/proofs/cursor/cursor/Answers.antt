@@ -1,7 +1,6 @@
-use Rattle.std.proofs.Common.{inl, inr, refl, sym, ◌∙◌, ap, arith, subst}
-use Rattle.feed_base.specs.Counts.{HasRisen}
+use Rattle.std.proofs.Common.{inl, inr, refl, sym, subst}
 use Rattle.feed_app.specs.Openings.{NotOpened}
-use Rattle.feed_app.specs.Outside.{area_of, held, over}
+use Rattle.feed_app.specs.Outside.{over}
 use Rattle.feed_app.specs.Spelled.{StaysSpelled}
 use Rattle.feed_app.specs.declared.answer.Answer.{Answer}
 use Rattle.feed_app.proofs.Closed.{closed_by, closed_rose, not_of_hive}

@@ -1,6 +1,6 @@
 use Rattle.std.proofs.Common.{arith}
 use Rattle.std.proofs.lemmas.Str.Pattern.{split_after}
-use Rattle.feed_app.proofs.Cuts.{free_byte}
+use Rattle.feed_routes.proofs.Keys.{free_byte}
 use Rattle.feed_app.proofs.cut.at_slash.Goals as goal
 
 pub returns : goal.returns

@@ -1,7 +1,7 @@
 use Rattle.std.proofs.Common.{inl, inr, refl, sym, subst}
 use Rattle.feed_base.specs.Counts.{HasRisen}
-use Rattle.feed_paths.specs.Paths.{without_query}
-use Rattle.feed_paths.specs.declared.hives.ServedHive.TheVariants as the
+use Rattle.feed_routes.specs.Cuts.{target_path}
+use Rattle.feed_app.specs.declared.hives.ServedHive.TheVariants as the
 use Rattle.feed_app.specs.Hives.{hive_name, hive_stores}
 use Rattle.feed_app.specs.Openings.{NotOpened}
 use Rattle.feed_app.specs.Outside.{over}
@@ -25,7 +25,7 @@ returns-in-Ok g c = λ input clock.
     } in
     let opened = open_over s now c.in-Ok.catalog _ c.in-Ok.ensures.opened in
     let spelled = opened_spelled s now c.in-Ok.catalog c.in-Ok.ensures.mends.area opened c.in-Ok.ensures.moments in
-    let is = inr (reads_as g.B.Blobs c.document-answer.result (without_query c.args.path.now) (IsOpenAs c.in-Ok.catalog now) (HasCatalog s)
+    let is = inr (reads_as g.B.Blobs c.document-answer.result c.args.path.now (IsOpenAs c.in-Ok.catalog now) (HasCatalog s)
     (hive_stores c.args.stores) (hive_stores left) opened c.document-answer.ensures.is) in
     record {
       keeps = record {
@@ -49,7 +49,7 @@ returns-in-Err g c = λ input clock.
     let s = g.B.Blobs.seen c.args.stores.catalog in
     let now = g.B.Blobs.seen c.in-Err.area in
     let left = record c.args.stores { catalog = c.in-Err.area } in
-    let path = without_query c.args.path.now in
+    let path = target_path c.args.path.now in
     let closed = subst (λ (a : Answer). NotOpened a s) (sym c.of_opening.ensures)
     (closed_by c.in-Err.error s _ c.in-Err.ensures.missing c.in-Err.ensures.damaged c.in-Err.ensures.refused) in
     let is = inl (closed, λ hive. refl) in

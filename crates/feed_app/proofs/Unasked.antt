@@ -1,0 +1,57 @@
+-- Where there is no memory to read the words, nothing was touched, as each command may answer.
+use Rattle.std.proofs.Common.{ℕ, List, Option, None, Some, inl, inr, refl}
+use Rattle.blob_store.proofs.Moments.{started}
+use Rattle.blob_store.specs.Area.{Area}
+use Rattle.blob_store.specs.Seen.{IsSure, Seen}
+use Rattle.catalog_doc.specs.Spelled.{SpellsCatalog}
+use Rattle.admin_wire.specs.declared.line.Line.TheVariants as line
+use Rattle.feed_app.specs.Commands.{Command, Init, Get, Publish, Names, Job, Cursor}
+use Rattle.feed_app.specs.Does.{Does, meaning}
+use Rattle.feed_app.specs.Frame.{KeepsArea, KeepsAreas, Touch, Nothing, Asks, Opens, Changes, Reach}
+use Rattle.feed_app.specs.Inits.{IsLeft}
+use Rattle.feed_app.specs.Openings.{NotOpened}
+use Rattle.feed_app.specs.Outside.{Members, Sight}
+use Rattle.feed_app.specs.Spelled.{StaysSpelled}
+use Rattle.feed_app.specs.declared.answer.Answer.TheVariants.{Reply}
+
+same_spelled : (s : Seen) → IsSure s → StaysSpelled s s
+same_spelled s sure = record {
+  mended = inl refl;
+  spelled = λ base cs has. (has, started s has.store.0 (λ left. SpellsCatalog left base cs) sure has.store.1 has.store.2);
+}
+
+same_left : (base : List ℕ) (old : Option Area) → IsLeft base old old
+same_left base None = tt
+same_left base (Some m) = inl refl
+
+closed : (s : Seen) → NotOpened (Reply line.Memory) s
+closed s = record { told = tt; of_store = λ base cs has. tt }
+
+module _ {B : Type 0} (m : Members B) (sure : (store : B) → IsSure (m.seen store)) where
+  same_area : (touch : Touch) (store : B) → KeepsArea m touch store store
+  same_area Nothing store = refl
+  same_area Asks store = refl
+  same_area Opens store = same_spelled (m.seen store) (sure store)
+  same_area Changes store = tt
+
+  module _ (before : Sight B) where
+    same_areas : (reach : Reach) → KeepsAreas m reach before.stores before.stores
+    same_areas reach = record {
+      catalog = same_area reach.catalog before.stores.catalog;
+      plain = same_area reach.plain before.stores.plain;
+      semver2 = same_area reach.semver2 before.stores.semver2;
+      content = same_area reach.content before.stores.content;
+      auto = same_area reach.auto before.stores.auto;
+    }
+
+    acts : (command : Command) → (meaning m command).acts before (Reply line.Memory) before
+    acts (Init base) = same_left base _
+    acts Publish = inl (tt, refl, refl)
+    acts (Names kind pairs) = inl (tt, refl, refl)
+    acts (Job hive) = inl (closed (m.seen before.stores.catalog), refl)
+    acts (Cursor hive) = inl (closed (m.seen before.stores.catalog), refl)
+    acts (Get path) = inl (closed (m.seen before.stores.catalog), λ hive. refl)
+
+    pub no_memory : (asked : Option Command) → Does m asked before (Reply line.Memory) before
+    no_memory None = (inr refl, refl)
+    no_memory (Some command) = record { keeps = same_areas (meaning m command).reach; explains = tt; acts = acts command }

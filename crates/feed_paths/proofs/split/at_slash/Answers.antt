@@ -1,8 +1,0 @@
-use Rattle.std.proofs.Common.{arith}
-use Rattle.std.proofs.lemmas.Str.Pattern.{split_after}
-use Rattle.feed_paths.proofs.Keys.{free_byte}
-use Rattle.feed_paths.proofs.split.at_slash.Goals as goal
-
-pub returns-clause-first : goal.returns-clause-first
-returns-clause-first c = λ front back free e.
-    split_after 47 c.args.text.now front back c.split_once.result c.split_once.ensures.cases (omega arith) e (free_byte 47 front free)
