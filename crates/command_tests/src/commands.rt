@@ -31,7 +31,7 @@ const SEMVER2_LEAF: &str =
     "{\"@id\":\"http://f.test/v3/registration-semver2/foo/1.0.0.json\",\"catalogEntry\":\"http://f.test/v3/catalog/data/1/0.json\",\"listed\":true,\"packageContent\":\"http://f.test/v3/flat/foo/1.0.0/foo.1.0.0.nupkg\",\"published\":\"2024-01-01T00:00:00.0000000Z\",\"registration\":\"http://f.test/v3/registration-semver2/foo/index.json\"}";
 
 // Asserts what each of the exchanges answers, from empty stores on.
-fn follow(
+pub fn follow(
     rt: &impl Abort,
     alloc: Global,
     exchanges: &[Exchange<'_>],
@@ -56,7 +56,7 @@ fn tells_each_status(rt: HostRuntime) -> Result<(), Fail> {
         (1, &[], plain, 2, USAGE),
         (1, &["publish", "publish"], plain, 2, USAGE),
         (1, &["Publish"], plain, 2, USAGE),
-        (1, &["job", "auto"], plain, 2, USAGE),
+        (1, &["job", "catalog"], plain, 2, USAGE),
         (1, &["get", "a", "b"], plain, 2, USAGE),
         (0, &["init", "http://f.test"], plain, 2, USAGE),
         (0, publish, plain, 3, "refused uninitialised\n"),
@@ -122,7 +122,7 @@ const ALL_IN_ORDER: [Exchange<'_>; 27] = [
     (&["publish"], LONGER, 3, "refused body 0\n"),
     (&["get", "/v3/flat/foo/index.json"], "", 3, MISSING),
     (&["job", "content"], "", 0, "done content 1\n"),
-    (&["job", "content"], "", 3, REFUSED),
+    (&["job", "content"], "", 0, "idle content 1\n"),
     (&["get", "/v3/catalog/index.json"], "", 0, INDEX),
     (&["get", "/v3/catalog/page0.json?a=b"], "", 0, PAGE),
     (&["get", "/v3/catalog/data/1/0.json"], "", 0, LEAF),
@@ -152,8 +152,8 @@ const REGISTRATIONS: [Exchange<'_>; 17] = [
     (&["publish"], FOO, 0, DONE),
     (&["get", "/v3/registration/foo/index.json"], "", 3, MISSING),
     (&["job", "plain"], "", 0, "done plain 1\n"),
-    (&["job", "plain"], "", 3, REFUSED),
-    (&["job", "auto"], "", 2, USAGE),
+    (&["job", "plain"], "", 0, "idle plain 1\n"),
+    (&["cursor", "catalog"], "", 2, USAGE),
     (
         &["get", "/v3/registration/foo/index.json"],
         "",

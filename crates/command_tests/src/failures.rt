@@ -247,7 +247,7 @@ fn the_next_page_takes_what_a_full_one_cannot(rt: HostRuntime) -> Result<(), Fai
 
 // The exchanges before a command, the command, and the calls of the catalog's store and of the content's that fail in it. Two
 // calls of the catalog's store make it, seven publish, three open it, one gets the leaf and two what the publish brought. The
-// job gets the content's cursor, puts three documents and then the cursor.
+// job gets the content's cursor and the id's state, puts that, three documents and the state again, and then the cursor.
 const CALLS: [(usize, &[&str], (u64, u64), (u64, u64), &str); 3] = [
     (
         2,
@@ -256,12 +256,12 @@ const CALLS: [(usize, &[&str], (u64, u64), (u64, u64), &str); 3] = [
         (0, 0),
         LEAF,
     ),
-    (2, &["job", "content"], (10, 15), (1, 5), "done content 1\n"),
+    (2, &["job", "content"], (10, 15), (1, 8), "done content 1\n"),
     (
         3,
         &["get", "/v3/flat/foo/index.json"],
         (16, 18),
-        (6, 6),
+        (9, 9),
         VERSIONS,
     ),
 ];

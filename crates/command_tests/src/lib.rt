@@ -7,3 +7,5 @@
 mod commands;
 #[cfg(test)]
 mod failures;
+#[cfg(test)]
+mod jobs;
