@@ -16,7 +16,10 @@ const LONGER: &str = "30 10 4\n{\"id\":\"Foo\",\"version\":\"1.0.0\"}<package/>a
 
 const FOO_IN_CAPITALS: &str = "30 10 3\n{\"id\":\"FOO\",\"version\":\"1.0.0\"}<package/>abc";
 
-const REFUSED: &str = "refused unsupported\n";
+const SERVED: &str = "refused served\n";
+
+const SERVICES: &str =
+    "{\"resources\":[{\"@id\":\"http://f.test/v3/catalog/index.json\",\"@type\":\"Catalog/3.0.0\"},{\"@id\":\"http://f.test/v3/flat/\",\"@type\":\"PackageBaseAddress/3.0.0\"},{\"@id\":\"http://f.test/v3/registration/\",\"@type\":\"RegistrationsBaseUrl\"},{\"@id\":\"http://f.test/v3/registration/\",\"@type\":\"RegistrationsBaseUrl/3.4.0\"},{\"@id\":\"http://f.test/v3/registration-semver2/\",\"@type\":\"RegistrationsBaseUrl/3.6.0\"},{\"@id\":\"http://f.test/v3/autocomplete\",\"@type\":\"SearchAutocompleteService\"},{\"@id\":\"http://f.test/v3/autocomplete\",\"@type\":\"SearchAutocompleteService/3.0.0-rc\"}],\"version\":\"3.0.0\"}";
 
 const PLAIN_INDEX: &str =
     "{\"@id\":\"http://f.test/v3/registration/foo/index.json\",\"commitId\":\"00000000-0000-0000-0000-000000000001\",\"commitTimeStamp\":\"2024-01-01T00:00:00.0000000Z\",\"count\":1,\"items\":[{\"@id\":\"http://f.test/v3/registration/foo/index.json#page/1.0.0/1.0.0\",\"count\":1,\"items\":[{\"@id\":\"http://f.test/v3/registration/foo/1.0.0.json\",\"catalogEntry\":{\"@id\":\"http://f.test/v3/catalog/data/1/0.json\",\"id\":\"Foo\",\"listed\":true,\"published\":\"2024-01-01T00:00:00.0000000Z\",\"version\":\"1.0.0\"},\"packageContent\":\"http://f.test/v3/flat/foo/1.0.0/foo.1.0.0.nupkg\"}],\"lower\":\"1.0.0\",\"parent\":\"http://f.test/v3/registration/foo/index.json\",\"upper\":\"1.0.0\"}]}";
@@ -51,7 +54,7 @@ fn tells_each_status(rt: HostRuntime) -> Result<(), Fail> {
     let alloc = rt.alloc();
     let plain = with_body(FOO);
     let publish: &[&str] = &["publish"];
-    let cases: [(usize, &[&str], Given<'_>, u8, &str); 14] = [
+    let cases: [(usize, &[&str], Given<'_>, u8, &str); 19] = [
         (1, publish, plain, 0, DONE),
         (1, &[], plain, 2, USAGE),
         (1, &["publish", "publish"], plain, 2, USAGE),
@@ -59,6 +62,17 @@ fn tells_each_status(rt: HostRuntime) -> Result<(), Fail> {
         (1, &["job", "catalog"], plain, 2, USAGE),
         (1, &["get", "a", "b"], plain, 2, USAGE),
         (0, &["init", "http://f.test"], plain, 2, USAGE),
+        (0, &["init", "http://f.test/?a"], plain, 2, USAGE),
+        (0, &["init", "ftp://f.test/"], plain, 2, USAGE),
+        (0, &["init", "HTTP://f.test/"], plain, 2, USAGE),
+        (
+            0,
+            &["init", "http://localhost:8080/"],
+            plain,
+            0,
+            "initialised\n",
+        ),
+        (0, &["init", "https://f.test/feed/"], plain, 0, "initialised\n"),
         (0, publish, plain, 3, "refused uninitialised\n"),
         (
             1,
@@ -110,7 +124,7 @@ fn tells_each_status(rt: HostRuntime) -> Result<(), Fail> {
 }
 
 // Commands one behind the other on the same stores, from empty ones.
-const ALL_IN_ORDER: [Exchange<'_>; 27] = [
+const ALL_IN_ORDER: [Exchange<'_>; 33] = [
     (&["init", "http://f.test"], "", 2, USAGE),
     (&["init", "http://f.test/"], "", 0, "initialised\n"),
     (&["init", "http://f.test/"], "", 3, "refused initialised\n"),
@@ -141,7 +155,13 @@ const ALL_IN_ORDER: [Exchange<'_>; 27] = [
     ),
     (&["get", "/v3/flat/foo/1.0.0/foo.1.0.0.nupkg"], "", 0, "abc"),
     (&["get", "/v3/flat/foo/1.0.1/foo.nuspec"], "", 3, MISSING),
-    (&["get", "/v3/index.json"], "", 3, REFUSED),
+    (&["get", "/v3/index.json"], "", 0, SERVICES),
+    (&["get", "/v3/index.json?a=b"], "", 0, SERVICES),
+    (&["get", "/v3/autocomplete?q=a"], "", 3, SERVED),
+    (&["get", "/admin/publish"], "", 3, SERVED),
+    (&["get", "/admin/job/plain"], "", 3, SERVED),
+    (&["get", "/admin/cursor/auto"], "", 3, SERVED),
+    (&["get", "/nowhere"], "", 3, MISSING),
     (&["get", "index.json"], "", 3, MISSING),
 ];
 
