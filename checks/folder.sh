@@ -165,7 +165,7 @@ refuses 'a job without a leaf' 6 'damaged catalog/data/1/0.json' job content
 refuses 'a get without a leaf' 6 'damaged catalog/data/1/0.json' get /v3/catalog/data/1/0.json
 mv "$work/leaf" "$store/catalog/data/1/0.json"
 
-# The content documents, built once.
+# The content documents.
 files >"$work/before"
 does 'done content 1' job content
 files | grep -v ' \./content/' >"$work/after"
@@ -182,7 +182,9 @@ gets /v3/flat/foo/1.0.0/foo.1.0.0.nupkg
 printf '%s' '<package/>' >"$work/want"
 holds content d/foo/1.0.0/foo.nuspec
 gets '/v3/flat/foo/1.0.0/foo.nuspec?semVerLevel=2.0.0'
-refuses 'a second job' 3 'refused unsupported' job content
+refuses 'a second job puts nothing' 0 'idle content 1' job content
+refuses 'the cursor of a hive' 0 'cursor content 1' cursor content
+refuses 'the cursor of a hive without a job' 0 'cursor plain 0' cursor plain
 
 # The registration documents without SemVer 2.0.0 packages, in an area of their own.
 files >"$work/before"
@@ -193,9 +195,11 @@ check 'a job of registrations leaves the other areas as they were'
 printf '%s' '{"@id":"http://f.test/v3/registration/foo/index.json","commitId":"'$zeros'1","commitTimeStamp":"'"$stamp"'","count":1,"items":[{"@id":"http://f.test/v3/registration/foo/index.json#page/1.0.0/1.0.0","count":1,"items":[{"@id":"http://f.test/v3/registration/foo/1.0.0.json","catalogEntry":{"@id":"http://f.test/v3/catalog/data/1/0.json","id":"Foo","listed":true,"published":"'"$stamp"'","version":"1.0.0"},"packageContent":"http://f.test/v3/flat/foo/1.0.0/foo.1.0.0.nupkg"}],"lower":"1.0.0","parent":"http://f.test/v3/registration/foo/index.json","upper":"1.0.0"}]}' >"$work/want"
 holds plain d/foo/index.json
 gets /v3/registration/foo/index.json
-refuses 'a second job of registrations' 3 'refused unsupported' job plain
-for path in /v3/index.json /v3/autocomplete /admin/cursor/content; do
-  refuses 'a get that is not answered yet' 3 'refused unsupported' get "$path"
+refuses 'a second job of registrations puts nothing' 0 'idle plain 1' job plain
+printf '%s' '{"resources":[{"@id":"http://f.test/v3/catalog/index.json","@type":"Catalog/3.0.0"},{"@id":"http://f.test/v3/flat/","@type":"PackageBaseAddress/3.0.0"},{"@id":"http://f.test/v3/registration/","@type":"RegistrationsBaseUrl"},{"@id":"http://f.test/v3/registration/","@type":"RegistrationsBaseUrl/3.4.0"},{"@id":"http://f.test/v3/registration-semver2/","@type":"RegistrationsBaseUrl/3.6.0"},{"@id":"http://f.test/v3/autocomplete","@type":"SearchAutocompleteService"},{"@id":"http://f.test/v3/autocomplete","@type":"SearchAutocompleteService/3.0.0-rc"}],"version":"3.0.0"}' >"$work/want"
+gets /v3/index.json
+for path in /v3/autocomplete /admin/cursor/content /admin/publish; do
+  refuses 'a get of what a server answers' 3 'refused served' get "$path"
 done
 for path in /v3/catalog/page1.json /v3/catalog/data/2/0.json /v3/catalog/staged/1/0.nupkg /v3/flat/bar/index.json /v3/flat/Foo/index.json /v3/flat/foo/1.0.0/bar.nuspec /v3/flat/../catalog/index.json /v3/registration/foo/1.0.1.json /v3/registration-semver2/foo/1.0.0.json /admin/stop v3/catalog/index.json; do
   refuses 'a get of nothing' 3 'refused missing' get "$path"
@@ -203,7 +207,7 @@ done
 
 refuses 'no word that is known' 2 "$usage" dance
 refuses 'a job of no hive' 2 "$usage" job red
-refuses 'a job of a hive that is not built yet' 2 "$usage" job auto
+refuses 'a cursor of no hive' 2 "$usage" cursor catalog
 refuses 'a job without a hive' 2 "$usage" job
 refuses 'a get without a path' 2 "$usage" get
 refuses 'a get of two paths' 2 "$usage" get /v3/catalog/index.json /v3/catalog/page0.json
@@ -228,9 +232,11 @@ cat >"$work/want" <<'EOF'
 ./content/d/foo/1.0.0/foo.1.0.0.nupkg
 ./content/d/foo/1.0.0/foo.nuspec
 ./content/d/foo/index.json
+./content/s/foo.json
 ./plain/cursor.json
 ./plain/d/foo/1.0.0.json
 ./plain/d/foo/index.json
+./plain/s/foo.json
 EOF
 cmp -s "$work/want" "$work/after"
 check 'the folder holds exactly the files of one publish and two jobs'
