@@ -72,7 +72,13 @@ fn tells_each_status(rt: HostRuntime) -> Result<(), Fail> {
             0,
             "initialised\n",
         ),
-        (0, &["init", "https://f.test/feed/"], plain, 0, "initialised\n"),
+        (
+            0,
+            &["init", "https://f.test/feed/"],
+            plain,
+            0,
+            "initialised\n",
+        ),
         (0, publish, plain, 3, "refused uninitialised\n"),
         (
             1,
