@@ -198,10 +198,10 @@ gets /v3/registration/foo/index.json
 refuses 'a second job of registrations puts nothing' 0 'idle plain 1' job plain
 printf '%s' '{"resources":[{"@id":"http://f.test/v3/catalog/index.json","@type":"Catalog/3.0.0"},{"@id":"http://f.test/v3/flat/","@type":"PackageBaseAddress/3.0.0"},{"@id":"http://f.test/v3/registration/","@type":"RegistrationsBaseUrl"},{"@id":"http://f.test/v3/registration/","@type":"RegistrationsBaseUrl/3.4.0"},{"@id":"http://f.test/v3/registration-semver2/","@type":"RegistrationsBaseUrl/3.6.0"},{"@id":"http://f.test/v3/autocomplete","@type":"SearchAutocompleteService"},{"@id":"http://f.test/v3/autocomplete","@type":"SearchAutocompleteService/3.0.0-rc"}],"version":"3.0.0"}' >"$work/want"
 gets /v3/index.json
-for path in /v3/autocomplete /admin/cursor/content /admin/publish; do
+for path in /v3/autocomplete /admin/cursor/content /admin/publish /admin/stop; do
   refuses 'a get of what a server answers' 3 'refused served' get "$path"
 done
-for path in /v3/catalog/page1.json /v3/catalog/data/2/0.json /v3/catalog/staged/1/0.nupkg /v3/flat/bar/index.json /v3/flat/Foo/index.json /v3/flat/foo/1.0.0/bar.nuspec /v3/flat/../catalog/index.json /v3/registration/foo/1.0.1.json /v3/registration-semver2/foo/1.0.0.json /admin/stop v3/catalog/index.json; do
+for path in /v3/catalog/page1.json /v3/catalog/data/2/0.json /v3/catalog/staged/1/0.nupkg /v3/flat/bar/index.json /v3/flat/Foo/index.json /v3/flat/foo/1.0.0/bar.nuspec /v3/flat/../catalog/index.json /v3/registration/foo/1.0.1.json /v3/registration-semver2/foo/1.0.0.json v3/catalog/index.json; do
   refuses 'a get of nothing' 3 'refused missing' get "$path"
 done
 
