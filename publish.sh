@@ -8,7 +8,9 @@
 # --unlisted what is published is then unlisted. The program is proved and built first where it isn't there. A feed that is
 # made here has the base address BASE, http://localhost.feed/ unless it is set.
 #
-# The program answers each commit, of up to 64 packages, with a line; its status says whether that is a refusal.
+# The program answers each commit, of up to 64 packages, with a line, and then, for each kind of documents that clients
+# read, up to which commit they are. The status is that of the first answer that isn't 0; the documents are brought up to
+# the last commit also where a publish behind it was refused.
 
 if [ "$#" -lt 2 ]; then
   sed -n 's/^# Use: /use: /p' "$0" >&2
@@ -78,5 +80,12 @@ fi
 if [ ! -e "$folder/catalog/index.json" ]; then
   "$feed" "$folder" init "${BASE:-http://localhost.feed/}" </dev/null || exit
 fi
-python3 "$top/packages.py" "$feed" "$folder" "$@" || exit
-echo "publish.sh: the catalog is written by $feed $folder get /v3/catalog/index.json" >&2
+python3 "$top/packages.py" "$feed" "$folder" "$@"
+status=$?
+for hive in content plain semver2 auto; do
+  "$feed" "$folder" job "$hive" </dev/null
+  ended=$?
+  [ "$status" -ne 0 ] || status=$ended
+done
+echo "publish.sh: where clients look is written by $feed $folder get /v3/index.json" >&2
+exit "$status"

@@ -30,10 +30,11 @@ for name in Newtonsoft.Json.6.0.8 NUnit.2.6.4; do
   [ ! -r "$nupkg/$name.nupkg" ] || set -- "$@" "$nupkg/$name.nupkg"
 done
 python3 - "$here" "$feed" "$work/store" "$@" <<'END'
-import base64, hashlib, json, re, subprocess, sys, xml.etree.ElementTree as tree, zipfile
+import base64, hashlib, json, os, re, subprocess, sys, xml.etree.ElementTree as tree, zipfile
 
 here, feed, store, *paths = sys.argv[1:]
 passed = failed = 0
+HIVES = [b"content", b"plain", b"semver2", b"auto"]
 
 
 def check(what, done):
@@ -83,6 +84,18 @@ check(f"the publish of the shown metadata: {ran.stdout}", ran.returncode == 0)
 check("its job", run(feed, other, "job", "plain").stdout == b"done plain 1\n")
 want = shown.replace(b"2024-01-01T00:00:00.0000000Z", stamp)
 check("the shown index", run(feed, other, "get", "/v3/registration/foo/index.json").stdout == want)
+
+# One command, where the program stands in its own place: a feed with its commit and what clients read.
+own = here + "/../crates/feed/out/feed"
+if os.path.exists(own) and os.path.samefile(feed, own):
+    one = store + "3"
+    ran = run("sh", here + "/../publish.sh", one, paths[0])
+    told = rb"initialised\ncommitted 1 \S+\n" + b"".join(b"done %s 1\n" % hive for hive in HIVES)
+    check(f"publish.sh: {ran.stdout}", ran.returncode == 0 and re.fullmatch(told, ran.stdout))
+    check("what it built", run(feed, one, "get", "/v3/flat/hello/index.json").stdout == b'{"versions":["1.0.0"]}')
+    ran = run("sh", here + "/../publish.sh", one, paths[0])
+    told = b"refused exists 0 1\n" + b"".join(b"idle %s 1\n" % hive for hive in HIVES)
+    check(f"publish.sh again: {ran.stdout}", (ran.returncode, ran.stdout) == (3, told))
 print(f"{passed} passed, {failed} failed")
 sys.exit(failed > 0)
 END
