@@ -84,7 +84,6 @@ refusal_text (refused.Base stored given) = base_text stored given
 refusal_text (refused.NotEmpty n) = number_text (codes "refused notempty") n
 refusal_text refused.Served = codes "refused served\n"
 refusal_text (refused.Line n) = number_text (codes "refused line") n
-refusal_text refused.Unsupported = codes "refused unsupported\n"
 
 -- a commit's number and stamp
 abbrev pub committed_text : ℕ → ℕ → List ℕ
@@ -184,7 +183,6 @@ refusal_http (refused.Base stored given) = None
 refusal_http (refused.NotEmpty n) = None
 refusal_http refused.Served = None
 refusal_http (refused.Line n) = None
-refusal_http refused.Unsupported = None
 
 -- the number of HTTP's status that goes with a line, where it has one
 abbrev pub http_of : Line → Option ℕ

@@ -89,6 +89,4 @@ pub enum Refusal {
     Served,
     /// This line of the script has no meaning.
     Line(u64),
-    /// It isn't answered yet.
-    Unsupported,
 }

@@ -128,7 +128,6 @@ fn refusal_bytes(alloc: Global, why: &Refusal) -> Result<Bytes, NoMemory>
         Refusal::NotEmpty(commits) => number_line(alloc, "refused notempty", u64::from(*commits)),
         Refusal::Served => Bytes::copy_of(alloc, b"refused served\n"),
         Refusal::Line(n) => number_line(alloc, "refused line", *n),
-        Refusal::Unsupported => Bytes::copy_of(alloc, b"refused unsupported\n"),
     }
 }
 
