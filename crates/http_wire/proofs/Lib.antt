@@ -10,3 +10,4 @@ pub mod DigitLemmas
 pub mod PhraseLemmas
 pub mod ScanLemmas
 pub mod TalkLemmas
+pub mod StatusLemmas

@@ -1,5 +1,5 @@
 -- Laws of what stands at the front of bytes, and of talks.
-use Rattle.std.specs.Prelude.{◌≡◌, ℕ, true, false, List, [], ◌∷◌, ◌++◌, Option, Some, Result}
+use Rattle.std.specs.Prelude.{◌≡◌, ℕ, true, false, List, [], ◌∷◌, ◌++◌, Option, Some}
 use Rattle.std.specs.declared.result.Result.TheVariants.{Ok, Err}
 use Rattle.http_wire.specs.Ask.{Ask, Front, Refused, Whole}
 use Rattle.http_wire.specs.Reading.{GivesRequest}

@@ -7,4 +7,5 @@ pub mod Lines
 pub mod Reading
 pub mod Response
 pub mod Scanned
+pub mod Statuses
 pub mod Talk

@@ -2,6 +2,7 @@
 ghost use Rattle.std.specs.Prelude.{◌≡◌, ◌<◌, ◌≤◌, ◌+◌, ◌⊎◌, true, false, min, length, take, drop, IfOk, IfErr, OnOk, IfSome, IsErrOf};
 ghost use Rattle.feed_base.specs.Counts.{CountsFault};
 ghost use Rattle.http_wire.specs.Reading.{IsBodyErr, IsEndOf, carried, pending, unread};
+ghost use Rattle.http_wire.specs.Statuses.{HasRefusalStatus};
 ghost use Rattle.http_wire.specs.declared.request.WireErr.TheVariants.{ReadFault, Memory};
 
 use crate::wire_in::read_at;
@@ -89,6 +90,7 @@ pub fn read_body<L: Link>(
     ensures whole { IfOk result (λ body. unread body (pending wire.new (L.left link.new)) ≡ pending wire.old (L.left link.old)) }
     ensures rest { IsEndOf (pending wire.old (L.left link.old)) (pending wire.new (L.left link.new)) }
     ensures refused { IfErr result (λ e. IfSome (pending wire.old (L.left link.old)) (λ bytes. IsBodyErr bytes size e)) }
+    ensures status { IfErr result HasRefusalStatus }
     ensures counted { CountsFault (L.read_faults link.old) (L.read_faults link.new) (IsErrOf result WireErr.ReadFault) }
     ensures same_written { L.written link.new ≡ L.written link.old }
     ensures same_write_faults { L.write_faults link.new ≡ L.write_faults link.old }

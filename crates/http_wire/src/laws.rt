@@ -1,5 +1,6 @@
 // What holds of `Ask` and of `Talk` for all bytes.
 ghost use Rattle.http_wire.specs.Laws.{EndsAtBad, EndsAtClosed, EndsAtLast, GoesOn, HasOneFront, IsOneTalk, LeadsOn, RefusalStands, RequestStands, StartsHere, TalksOn};
+ghost use Rattle.http_wire.specs.Statuses.{RefusalsHaveStatuses};
 
 /// One thing stands at the front of some bytes.
 pub fn one_answer()
@@ -10,6 +11,11 @@ pub fn one_answer()
 pub fn requests_stand()
     ensures request { RequestStands }
     ensures refusal { RefusalStands }
+{}
+
+/// A refusal has one of five statuses: 400, 413, 415, 431 or 501.
+pub fn refusals_have_statuses()
+    ensures { RefusalsHaveStatuses }
 {}
 
 /// An input is one talk, with one ending.

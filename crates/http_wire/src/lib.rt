@@ -20,7 +20,7 @@ mod scan;
 mod wire;
 mod wire_in;
 
-pub use laws::{leads_on, one_answer, one_talk, requests_stand, talk_on};
+pub use laws::{leads_on, one_answer, one_talk, refusals_have_statuses, requests_stand, talk_on};
 pub use nuget_version::{Bytes, NoMemory, Text};
 pub use reading::read_request;
 pub use request::{Request, WireErr};

@@ -3,6 +3,7 @@ ghost use Rattle.std.specs.Prelude.{◌≡◌, IfOk, IfErr, IfSome, IsErrOf};
 ghost use Rattle.feed_base.specs.Counts.{CountsFault};
 ghost use Rattle.http_wire.specs.Reading.{GivesRequest, IsEndOf, Says, carried, pending};
 ghost use Rattle.http_wire.specs.Scanned.{IsSpan};
+ghost use Rattle.http_wire.specs.Statuses.{HasRefusalStatus};
 
 use crate::body::read_body;
 use crate::head::read_head;
@@ -17,6 +18,7 @@ fn find_head<L: Link>(wire: &mut WireIn, link: &mut L) -> Result<(usize, usize),
     ensures told { pending wire.new (L.left link.new) ≡ pending wire.old (L.left link.old) }
     ensures found { IfOk result (λ span. IsSpan (carried wire.new) span) }
     ensures refused { IfErr result (λ e. IfSome (pending wire.old (L.left link.old)) (λ bytes. Says bytes e)) }
+    ensures status { IfErr result HasRefusalStatus }
     ensures counted { CountsFault (L.read_faults link.old) (L.read_faults link.new) (IsErrOf result WireErr.ReadFault) }
     ensures same_written { L.written link.new ≡ L.written link.old }
     ensures same_write_faults { L.write_faults link.new ≡ L.write_faults link.old }
@@ -49,6 +51,9 @@ pub fn read_request<L: Link>(
 ) -> Result<Request, WireErr>
     // The first of the bytes that are not answered yet, or why there is none; those behind it stay.
     ensures answers { GivesRequest (pending wire.old (L.left link.old)) (pending wire.new (L.left link.new)) result }
+
+    // A refusal has one of the five statuses, also where the link doesn't tell what it has left.
+    ensures status { IfErr result HasRefusalStatus }
 
     // Whatever it answers, it took from the front.
     ensures rest { IsEndOf (pending wire.old (L.left link.old)) (pending wire.new (L.left link.new)) }
