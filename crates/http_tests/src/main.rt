@@ -1,8 +1,8 @@
 //! Requests with what they are read as, a row each on standard input, in every cutting of their bytes.
 //!
 //! A row is the section of the standard that asks for it, the bytes, and the answers, with tabs between. Each
-//! row's bytes are read in one piece, cut in two at each place, in pieces of one, two and three bytes, and,
-//! where they are few, cut in three at each two places.
+//! row's bytes are read in one piece, in pieces of one, two and three bytes, and cut in two and in three at each
+//! place and at each two places.
 #![tactic(auto)]
 
 mod cut_link;
@@ -20,9 +20,6 @@ use row::Row;
 use std::alloc::{AllocError, Global};
 use std::io;
 use told::told;
-
-// Below this many bytes a row is cut in three at each two places.
-const FEW: usize = 96;
 
 /// How many readings were made, and how many gave other answers than the row's.
 #[derive(Clone, Copy)]
@@ -47,7 +44,7 @@ fn read_once(alloc: Global, row: &Row, cuts: Cuts, tally: Tally) -> Result<Tally
     Ok(tally.count(answers.as_bytes() == row.answers.as_slice()))
 }
 
-// Cuts at one place and at each place behind it.
+// Cuts at one place, and at that and each place behind it.
 fn cut_in_three(alloc: Global, row: &Row, first: usize, tally: Tally) -> Result<Tally, AllocError> {
     let mut tally = tally;
     for second in first..row.bytes.len() {
@@ -56,14 +53,10 @@ fn cut_in_three(alloc: Global, row: &Row, first: usize, tally: Tally) -> Result<
     Ok(tally)
 }
 
-fn cut_row(alloc: Global, row: &Row, tally: Tally) -> Result<Tally, AllocError> {
+fn cut_everywhere(alloc: Global, row: &Row, tally: Tally) -> Result<Tally, AllocError> {
     let mut tally = tally;
     for place in 0..row.bytes.len() {
-        tally = if row.bytes.len() < FEW {
-            cut_in_three(alloc, row, place, tally)?
-        } else {
-            read_once(alloc, row, Cuts::at(place, place), tally)?
-        };
+        tally = cut_in_three(alloc, row, place, tally)?;
     }
     Ok(tally)
 }
@@ -73,7 +66,7 @@ fn read_row(alloc: Global, row: &Row, tally: Tally) -> Result<Tally, AllocError>
     for size in 1..4usize {
         tally = read_once(alloc, row, Cuts::pieces(size), tally)?;
     }
-    cut_row(alloc, row, tally)
+    cut_everywhere(alloc, row, tally)
 }
 
 fn main(rt: HostRuntime) -> io::Result<()> {
