@@ -4,4 +4,3 @@ pub mod Printed
 pub mod Routes
 pub mod Table
 pub mod Tested
-pub mod Walk

@@ -1,116 +1,74 @@
--- A path that begins with a root finds that root.
-use Rattle.std.proofs.Common.{◌≡◌, ◌≢◌, ◌<◌, ℕ, List, [], ◌∷◌, ◌++◌, codes, Option, Some, IsAscii, inl, inr, refl, sym, ap, ◌∙◌, subst, option_map, arith}
-use Rattle.std.proofs.lemmas.List.{append-nil}
-use Rattle.fold_core.specs.declared.hive.HiveName.{HiveName}
-use Rattle.fold_core.specs.declared.hive.HiveName.TheVariants.{Plain, SemVer2, Content, Auto}
-use Rattle.matchit.proofs.OnLiterals.{matchit_on_literals}
-use Rattle.matchit.specs.Rows.{catch_all_token}
-use Rattle.matchit.specs.Seek.{first}
-use Rattle.package_id.proofs.Bytes.{IsAscii-key, id_filled}
-use Rattle.package_id.specs.Ids.{id_key}
-use Rattle.feed_routes.proofs.Walk.{seek_on, seek_rest}
-use Rattle.feed_routes.specs.Names.{IsCatalogName, IsOfId}
-use Rattle.feed_routes.specs.Segments.{IsIdKey}
-use Rattle.feed_routes.specs.Roots.{IsBehind, all_routes, root_text}
-use Rattle.feed_routes.specs.Table.{hive_segment}
+-- A path that begins with a root has that root's second segment.
+use Rattle.std.proofs.Common.{◌≡◌, ◌==◌, if◌then◌else◌, get_or, ℕ, List, [], ◌++◌, Option, None, Some, MatchOption, refl, sym, ap, ◌∙◌}
+use Rattle.feed_routes.specs.Cuts.{second_segment}
+use Rattle.feed_routes.specs.Roots.{IsBehind, root_segment, root_text}
 use Rattle.feed_routes.specs.declared.roots.Root.{Root}
 use Rattle.feed_routes.specs.declared.roots.Root.TheVariants as root
 
--- the root that the router finds
-abbrev pub found : List ℕ → Option Root
-found path = option_map (λ route. route.value) (first all_routes path)
+-- by the first byte, where one root alone has it, or one more
+abbrev pub root_at : List ℕ → Root
+root_at s =
+    if get_or s 0 0 == 105 then root.Index
+    else if get_or s 0 0 == 99 then (if get_or s 1 0 == 97 then root.Catalog else root.Cursor)
+    else if get_or s 0 0 == 114 then (if get_or s 12 0 == 45 then root.SemVer2 else root.Plain)
+    else if get_or s 0 0 == 102 then root.Flat
+    else if get_or s 0 0 == 97 then root.Autocomplete
+    else if get_or s 0 0 == 112 then root.Publish
+    else if get_or s 0 0 == 117 then root.Unlist
+    else if get_or s 0 0 == 108 then root.Relist
+    else if get_or s 0 0 == 100 then root.Delete
+    else if get_or s 0 0 == 106 then root.Job
+    else root.Stop
 
--- the root is a whole path
-abbrev pub IsWhole : Root → Type 0
-IsWhole root.Catalog = ⊥
-IsWhole root.Plain = ⊥
-IsWhole root.SemVer2 = ⊥
-IsWhole root.Flat = ⊥
-IsWhole root.Job = ⊥
-IsWhole root.Cursor = ⊥
-IsWhole _ = Unit {0}
+back : (r : Root) → root_at (root_segment r) ≡ r
+back root.Index = refl
+back root.Catalog = refl
+back root.Plain = refl
+back root.SemVer2 = refl
+back root.Flat = refl
+back root.Autocomplete = refl
+back root.Publish = refl
+back root.Unlist = refl
+back root.Relist = refl
+back root.Delete = refl
+back root.Job = refl
+back root.Cursor = refl
+back root.Stop = refl
 
-pub whole_found : (r : Root) → IsWhole r → found (root_text r) ≡ Some r
-unfolding matchit_on_literals
-whole_found root.Index w = refl
-whole_found root.Catalog w = absurd w
-whole_found root.Plain w = absurd w
-whole_found root.SemVer2 w = absurd w
-whole_found root.Flat w = absurd w
-whole_found root.Autocomplete w = refl
-whole_found root.Publish w = refl
-whole_found root.Unlist w = refl
-whole_found root.Relist w = refl
-whole_found root.Delete w = refl
-whole_found root.Job w = absurd w
-whole_found root.Cursor w = absurd w
-whole_found root.Stop w = refl
+-- a segment is that of one root
+one_root : (r s : Root) → root_segment r ≡ root_segment s → r ≡ s
+one_root r s e = sym (back r) ∙ ap root_at e ∙ back s
 
--- a path whose root takes what is left
-pub rest_found : (r : Root) (x : ℕ) (rest : List ℕ) → (IsWhole r → ⊥) → catch_all_token ≢ x → found (root_text r ++ x ∷ rest) ≡ Some r
-unfolding matchit_on_literals
-rest_found root.Index x rest w byte = absurd (w tt)
-rest_found root.Catalog x rest w byte =
-    ap (option_map (λ route. route.value)) (seek_on (codes "/v3/catalog/") (x ∷ rest) all_routes _ (seek_rest x rest _ byte))
-rest_found root.Plain x rest w byte =
-    ap (option_map (λ route. route.value)) (seek_on (codes "/v3/registration/") (x ∷ rest) all_routes _ (seek_rest x rest _ byte))
-rest_found root.SemVer2 x rest w byte =
-    ap (option_map (λ route. route.value)) (seek_on (codes "/v3/registration-semver2/") (x ∷ rest) all_routes _ (seek_rest x rest _ byte))
-rest_found root.Flat x rest w byte = ap (option_map (λ route. route.value)) (seek_on (codes "/v3/flat/") (x ∷ rest) all_routes _ (seek_rest x rest _ byte))
-rest_found root.Autocomplete x rest w byte = absurd (w tt)
-rest_found root.Publish x rest w byte = absurd (w tt)
-rest_found root.Unlist x rest w byte = absurd (w tt)
-rest_found root.Relist x rest w byte = absurd (w tt)
-rest_found root.Delete x rest w byte = absurd (w tt)
-rest_found root.Job x rest w byte = ap (option_map (λ route. route.value)) (seek_on (codes "/admin/job/") (x ∷ rest) all_routes _ (seek_rest x rest _ byte))
-rest_found root.Cursor x rest w byte =
-    ap (option_map (λ route. route.value)) (seek_on (codes "/admin/cursor/") (x ∷ rest) all_routes _ (seek_rest x rest _ byte))
-rest_found root.Stop x rest w byte = absurd (w tt)
+-- the root that is whole has nothing behind it
+at_none : (front : List ℕ) (r : Root) (rest : List ℕ) → rest ≡ [] → second_segment (front ++ []) ≡ root_segment r
+    → second_segment (front ++ rest) ≡ root_segment r
+at_none front r rest e h = ap (λ (l : List ℕ). second_segment (front ++ l)) e ∙ h
 
--- there is a first byte, and it is one
-abbrev Begins : List ℕ → Type 0
-Begins rest = (x : ℕ) × (more : List ℕ) × (rest ≡ x ∷ more) × (catch_all_token ≢ x)
+pub segment_is : (r : Root) (rest : List ℕ) → IsBehind r rest → second_segment (root_text r ++ rest) ≡ root_segment r
+segment_is root.Index rest h = at_none (root_text root.Index) root.Index rest h refl
+segment_is root.Catalog rest h = refl
+segment_is root.Plain rest h = refl
+segment_is root.SemVer2 rest h = refl
+segment_is root.Flat rest h = refl
+segment_is root.Autocomplete rest h = at_none (root_text root.Autocomplete) root.Autocomplete rest h refl
+segment_is root.Publish rest h = at_none (root_text root.Publish) root.Publish rest h refl
+segment_is root.Unlist rest h = at_none (root_text root.Unlist) root.Unlist rest h refl
+segment_is root.Relist rest h = at_none (root_text root.Relist) root.Relist rest h refl
+segment_is root.Delete rest h = at_none (root_text root.Delete) root.Delete rest h refl
+segment_is root.Job rest h = refl
+segment_is root.Cursor rest h = refl
+segment_is root.Stop rest h = at_none (root_text root.Stop) root.Stop rest h refl
 
-catalog_begins : (rest : List ℕ) → IsCatalogName rest → Begins rest
-catalog_begins rest (inl e) = (105, codes "ndex.json", e, λ e. omega arith)
-catalog_begins rest (inr (inl page)) = (112, codes "age" ++ (page.0 ++ codes ".json"), page.2, λ e. omega arith)
-catalog_begins rest (inr (inr leaf)) = (100, codes "ata/" ++ (leaf.0 ++ codes ".json"), leaf.2, λ e. omega arith)
+-- the root of a path
+abbrev pub found : List ℕ → Root
+found path = root_at (second_segment path)
 
-ascii_begins : (id rest : List ℕ) → id ≢ [] → IsAscii id → Begins (id ++ rest)
-ascii_begins [] rest filled ascii = absurd (filled refl)
-ascii_begins (x ∷ id) rest filled ascii = let low : x < 128 = ascii 0 in (x, id ++ rest, refl, λ e. omega arith)
+pub root_found : (r : Root) (rest : List ℕ) → IsBehind r rest → found (root_text r ++ rest) ≡ r
+root_found r rest h = ap root_at (segment_is r rest h) ∙ back r
 
-id_begins : (id rest : List ℕ) → IsIdKey id → Begins (id ++ rest)
-id_begins id rest key =
-    subst (λ (t : List ℕ). Begins (t ++ rest)) key.own (ascii_begins (id_key id) rest (id_filled id key.is_id.0) (IsAscii-key id key.is_id.0))
-
-of_id_begins : (IsTail : List ℕ → List ℕ → Type 0) (rest : List ℕ) → IsOfId IsTail rest → Begins rest
-of_id_begins IsTail rest w = subst Begins (sym w.4) (id_begins w.0 (codes "/" ++ w.1) w.2)
-
-hive_begins : (hive : HiveName) → Begins (hive_segment hive)
-hive_begins Plain = (112, codes "lain", refl, λ e. omega arith)
-hive_begins SemVer2 = (115, codes "emver2", refl, λ e. omega arith)
-hive_begins Content = (99, codes "ontent", refl, λ e. omega arith)
-hive_begins Auto = (97, codes "uto", refl, λ e. omega arith)
-
--- a root with what is left behind it
-rest_root : (r : Root) (rest : List ℕ) → (IsWhole r → ⊥) → Begins rest → found (root_text r ++ rest) ≡ Some r
-rest_root r rest w b = ap (λ (l : List ℕ). found (root_text r ++ l)) b.2 ∙ rest_found r b.0 b.1 w b.3
-
-whole_root : (r : Root) (rest : List ℕ) → IsWhole r → rest ≡ [] → found (root_text r ++ rest) ≡ Some r
-whole_root r rest w e = ap (λ (l : List ℕ). found (root_text r ++ l)) e ∙ ap found (append-nil (root_text r)) ∙ whole_found r w
-
-pub root_found : (r : Root) (rest : List ℕ) → IsBehind r rest → found (root_text r ++ rest) ≡ Some r
-root_found root.Index rest h = whole_root root.Index rest tt h
-root_found root.Catalog rest h = rest_root root.Catalog rest (λ w. w) (catalog_begins rest h)
-root_found root.Plain rest h = rest_root root.Plain rest (λ w. w) (of_id_begins _ rest h)
-root_found root.SemVer2 rest h = rest_root root.SemVer2 rest (λ w. w) (of_id_begins _ rest h)
-root_found root.Flat rest h = rest_root root.Flat rest (λ w. w) (of_id_begins _ rest h)
-root_found root.Autocomplete rest h = whole_root root.Autocomplete rest tt h
-root_found root.Publish rest h = whole_root root.Publish rest tt h
-root_found root.Unlist rest h = whole_root root.Unlist rest tt h
-root_found root.Relist rest h = whole_root root.Relist rest tt h
-root_found root.Delete rest h = whole_root root.Delete rest tt h
-root_found root.Job rest h = rest_root root.Job rest (λ w. w) (subst Begins (sym h.1) (hive_begins h.0))
-root_found root.Cursor rest h = rest_root root.Cursor rest (λ w. w) (subst Begins (sym h.1) (hive_begins h.0))
-root_found root.Stop rest h = whole_root root.Stop rest tt h
+-- what is told of a segment is its root
+pub told : (segment : List ℕ) (o : Option Root) (r : Root)
+    → MatchOption o ((s : Root) → segment ≡ root_segment s → ⊥) (λ (s : Root). segment ≡ root_segment s)
+    → segment ≡ root_segment r → o ≡ Some r
+told segment None r h e = absurd (h r e)
+told segment (Some s) r h e = ap Some (one_root s r (sym h ∙ e))

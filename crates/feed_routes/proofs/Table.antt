@@ -114,7 +114,7 @@ stands_at path query asked r rest s at e =
 pub one_asked : (path query : List ℕ) (a b : Ask) → AsksFor path query a → AsksFor path query b → a ≡ b
 one_asked path query a b x y =
     let s = stands path query a x in
-    let at : IsRootOf path (Some s.place) = λ r rest e h. sym (ap found s.spelled ∙ root_found s.place s.rest s.behind) ∙ ap found e ∙ root_found r rest h in
+    let at : IsRootOf path (Some s.place) = λ r rest e h. ap Some (sym (ap found s.spelled ∙ root_found s.place s.rest s.behind) ∙ ap found e ∙ root_found r rest h) in
     one_behind s.place s.rest query a b s.asks (stands_at path query b s.place s.rest (stands path query b y) at s.spelled).1
 
 -- a path without a root asks for nothing

@@ -1,12 +1,7 @@
 -- By what a path is looked up: the root of its route, and what stands behind it.
-use Rattle.std.specs.Prelude.{◌≡◌, ℕ, List, [], ◌++◌, codes, MatchOption, Option, Result, Ok, Err}
+use Rattle.std.specs.Prelude.{◌≡◌, ℕ, List, [], ◌++◌, codes, MatchOption, Option}
 use Rattle.fold_core.specs.declared.hive.HiveName.{HiveName}
 use Rattle.fold_core.specs.declared.hive.HiveName.TheVariants.{Plain, SemVer2}
-use Rattle.matchit.specs.Order.{placed}
-use Rattle.matchit.specs.Route.{parse_route, Scan}
-use Rattle.matchit.specs.Router.{RouteOf, route_from}
-use Rattle.matchit.specs.Rows.{RowsOf}
-use Rattle.matchit.specs.declared.error.InsertError.{InsertError}
 use Rattle.feed_routes.specs.Names.{IsCatalogName, IsContentRest, IsRegistrationRest}
 use Rattle.feed_routes.specs.Table.{hive_segment}
 use Rattle.feed_routes.specs.declared.ask.Ask.{Ask}
@@ -30,6 +25,22 @@ root_text root.Delete = codes "/admin/delete"
 root_text root.Job = codes "/admin/job/"
 root_text root.Cursor = codes "/admin/cursor/"
 root_text root.Stop = codes "/admin/stop"
+
+-- the second segment of a root, by which the roots are told apart
+abbrev pub root_segment : Root → List ℕ
+root_segment root.Index = codes "index.json"
+root_segment root.Catalog = codes "catalog"
+root_segment root.Plain = codes "registration"
+root_segment root.SemVer2 = codes "registration-semver2"
+root_segment root.Flat = codes "flat"
+root_segment root.Autocomplete = codes "autocomplete"
+root_segment root.Publish = codes "publish"
+root_segment root.Unlist = codes "unlist"
+root_segment root.Relist = codes "list"
+root_segment root.Delete = codes "delete"
+root_segment root.Job = codes "job"
+root_segment root.Cursor = codes "cursor"
+root_segment root.Stop = codes "stop"
 
 -- what stands behind the root in the paths that begin with it
 abbrev pub IsBehind : Root → List ℕ → Type 0
@@ -64,28 +75,3 @@ IsWhen P asked found = MatchOption found (P → ⊥) (λ (a : Ask). P × (a ≡ 
 -- what is found behind a root: what is asked for, and nothing where nothing that is asked for stands there
 abbrev pub IsFound : Root → List ℕ → List ℕ → Option Ask → Type 0
 IsFound r rest query found = MatchOption found (IsBehind r rest → ⊥) (λ (a : Ask). IsBehind r rest × AsksBehind r rest query a)
-
--- the routes of a router, with a route more
-abbrev with_scan : Result Scan InsertError → Root → RowsOf (RouteOf Root) → RowsOf (RouteOf Root)
-with_scan (Ok s) r rows = placed (s.pattern, route_from s r) rows
-with_scan (Err e) r rows = rows
-
-abbrev pub with_route : List ℕ → Root → RowsOf (RouteOf Root) → RowsOf (RouteOf Root)
-with_route text r rows = with_scan (parse_route text) r rows
-
--- the routes of the table
-abbrev pub all_routes : RowsOf (RouteOf Root)
-all_routes =
-    with_route (codes "/admin/stop") root.Stop
-    (with_route (codes "/admin/cursor/{*rest}") root.Cursor
-    (with_route (codes "/admin/job/{*rest}") root.Job
-    (with_route (codes "/admin/delete") root.Delete
-    (with_route (codes "/admin/list") root.Relist
-    (with_route (codes "/admin/unlist") root.Unlist
-    (with_route (codes "/admin/publish") root.Publish
-    (with_route (codes "/v3/autocomplete") root.Autocomplete
-    (with_route (codes "/v3/flat/{*rest}") root.Flat
-    (with_route (codes "/v3/registration-semver2/{*rest}") root.SemVer2
-    (with_route (codes "/v3/registration/{*rest}") root.Plain
-    (with_route (codes "/v3/catalog/{*rest}") root.Catalog
-    (with_route (codes "/v3/index.json") root.Index []))))))))))))

@@ -34,7 +34,9 @@ fn catalog_ask(alloc: Global, rest: &str) -> Result<Option<Ask>, NoMemory>
 fn area_name(alloc: Global, rest: &str) -> Result<Text, NoMemory>
     ensures { IfOk result (λ name. name ≡ codes "d/" ++ rest.now) }
 {
-    let name = format!(in alloc; "d/{rest}")?;
+    let mut name = String::with_capacity(alloc, rest.len() + 2)?;
+    name.push_str("d/")?;
+    name.push_str(rest)?;
     Ok(Text::of(name))
 }
 
@@ -114,7 +116,7 @@ fn ask_behind(alloc: Global, root: Root, rest: &str, query: &str) -> Result<Opti
 fn asked(alloc: Global, path: &str, query: &str) -> Result<Option<Ask>, NoMemory>
     ensures { IfOk result (λ found. MatchOption found ((asked : Ask) → AsksFor path.now query.now asked → ⊥) (AsksFor path.now query.now)) }
 {
-    let Some(root) = find_root(alloc, path)? else {
+    let Some(root) = find_root(path) else {
         return Ok(None);
     };
     let Some(rest) = after_prefix(path, root.text()) else {

@@ -1,6 +1,6 @@
 // Splitting a text.
 ghost use Rattle.std.specs.Prelude.{◌≡◌, ◌∷◌, ◌++◌, ℕ, List, IfSome, MatchOption};
-ghost use Rattle.feed_routes.specs.Cuts.{IsFree, target_path, target_query};
+ghost use Rattle.feed_routes.specs.Cuts.{IsFree, behind_slash, first_segment, second_segment, target_path, target_query};
 
 // The path and the query of a target.
 pub(crate) fn at_query(target: &str) -> (&str, &str)
@@ -11,6 +11,27 @@ pub(crate) fn at_query(target: &str) -> (&str, &str)
         Some((path, query)) => (path, query),
         None => (target, ""),
     }
+}
+
+// The first segment of a text, and what stands behind its slash.
+fn at_segment(text: &str) -> (&str, &str)
+    ensures segment { result.0.now ≡ first_segment text.now }
+    ensures behind { result.1.now ≡ behind_slash text.now }
+{
+    match text.split_once('/') {
+        Some((segment, behind)) => (segment, behind),
+        None => (text, ""),
+    }
+}
+
+// The second segment of a path.
+pub(crate) fn second_segment(path: &str) -> &str
+    ensures { result.now ≡ second_segment path.now }
+{
+    let (_, path) = at_segment(path);
+    let (_, behind) = at_segment(path);
+    let (segment, _) = at_segment(behind);
+    segment
 }
 
 // What stands before and behind the first slash.

@@ -1,8 +1,9 @@
-use Rattle.std.proofs.Common.{◌∙◌, ap, option_map}
-use Rattle.matchit.specs.Seek.{first}
-use Rattle.feed_routes.proofs.Routes.{found, root_found}
+use Rattle.std.proofs.Common.{◌∙◌, ap}
+use Rattle.feed_routes.specs.Cuts.{second_segment}
+use Rattle.feed_routes.proofs.Routes.{segment_is, told}
 use Rattle.feed_routes.proofs.router.find_root.Goals as goal
 
 pub returns : goal.returns
 returns c = λ root rest e h.
-    c.matched.ensures ∙ ap (λ rows. option_map (λ route. route.value) (first rows c.args.path.now)) c.in_ok-router.ensures ∙ ap found e ∙ root_found root rest h
+    told _ c.root_of_segment.result root c.root_of_segment.ensures
+    (c.second_segment.ensures ∙ ap second_segment e ∙ segment_is root rest h)
