@@ -17,13 +17,11 @@ use Rattle.http_wire.specs.Response.{wire_bytes}
 use Rattle.http_wire.specs.declared.response.Verb.{Verb}
 use Rattle.nuget_version.specs.declared.values.NoMemory.{NoMemory}
 use Rattle.feed_host.specs.Replies.{IsReply, answered, bare, for_answer, refusal_bytes, reply_bytes}
-use Rattle.feed_host.specs.Serving.{AreAll, AreAnswered, AreFirst, AreRefused, IsExchange, IsNextRequest, Progress, SendsPart, Serves, progress}
-use Rattle.feed_host.specs.Statuses.{IsRefusalStatus}
+use Rattle.feed_host.specs.Serving.{AreAll, AreAnswered, AreFirst, AreRefused, IsExchange, IsNextRequest, Progress, SendsPart, Serves, TellsRefusal, progress, sent}
 use Rattle.feed_host.specs.Steps.{Answering, Closing, Leads, Next, Sending, end_behind}
 use Rattle.feed_host.specs.declared.end.End.{End}
 use Rattle.feed_host.specs.declared.end.End.TheVariants.{ByClient, AfterError, Stopped, ReadFault, WriteFault, Memory}
 use Rattle.feed_host.specs.declared.reply.Reply.{Reply}
-use Rattle.feed_host.proofs.StatusLemmas.{says_status}
 
 abbrev Bytes : Type 0
 Bytes = Option (List ℕ)
@@ -92,12 +90,12 @@ all_last (Some bytes) rest after requests request h gives ends =
     let here : GivesRequest (Some h.0) after (Ok request) = subst (λ (b : Bytes). GivesRequest b after (Ok request)) h.1 gives in
     inr (leads_talk requests bytes h.0 (request ∷ []) AfterLast h.2 (here.0, here.2, inl (ends, refl, refl)))
 
-pub all_refused : (input rest after : Bytes) (requests : List Request) (status told : ℕ) → Leads input requests rest
-    → GivesRequest rest after (Err (wire.Bad status)) → (IsRefusalStatus status → told ≡ status) → AreRefused input requests told
-all_refused None rest after requests status told h gives same = tt
-all_refused (Some bytes) rest after requests status told h gives same =
+pub all_refused : (input rest after : Bytes) (requests : List Request) (status : ℕ) → Leads input requests rest
+    → GivesRequest rest after (Err (wire.Bad status)) → AreRefused input requests status
+all_refused None rest after requests status h gives = tt
+all_refused (Some bytes) rest after requests status h gives =
     let here : Says h.0 (wire.Bad status) = subst (λ (b : Bytes). GivesRequest b after (Err (wire.Bad status))) h.1 gives in
-    subst (λ (s : ℕ). Talk bytes requests (AtRefusal s)) (sym (same (says_status h.0 status here))) (ends_talk bytes h.0 requests (AtRefusal status) h.2 here)
+    ends_talk bytes h.0 requests (AtRefusal status) h.2 here
 
 -- behind an answer that went out
 pub answering_whole : {State : Type 0} (acts : Acts State) (request : Request) (reply : Reply) (old new : Progress State) (last stop : Bool)
@@ -136,6 +134,12 @@ module _ {State : Type 0} (acts : Acts State) (input rest after : Bytes) (reques
   by_request request (AfterError s) gives h = absurd h
   by_request request ReadFault gives h = absurd h
 
+  -- the refusal that is told is that of the input
+  refused_as : (told status : ℕ) → told ≡ status → AreRefused input requests status → new.state ≡ old.state
+      → new.written ≡ sent (refusal_bytes status) old.written → AreRefused input requests told × TellsRefusal old told new
+  refused_as told status same refused s h =
+      subst (λ (t : ℕ). AreRefused input requests t × TellsRefusal old t new) (sym same) (refused, (s, h))
+
   by_error : (e : WireErr) (end : End) → GivesRequest rest after (Err e) → new.state ≡ old.state → Closing e old.written end new.written
       → Serves acts input start end new
   by_error wire.Closed ByClient gives s h =
@@ -147,9 +151,9 @@ module _ {State : Type 0} (acts : Acts State) (input rest after : Bytes) (reques
   by_error (wire.Bad status) Memory gives s h =
       (requests, old, answered, inl (is_first input rest requests led, same_progress old.state new.state old.written new.written s h))
   by_error (wire.Bad status) (AfterError told) gives s h =
-      (requests, old, answered, (all_refused input rest after requests status told led gives h.0, (s, h.1)))
+      (requests, old, answered, refused_as told status h.0 (all_refused input rest after requests status led gives) s h.1)
   by_error (wire.Bad status) WriteFault gives s h =
-      (requests, old, answered, inr (h.0, all_refused input rest after requests status h.0 led gives h.1, s, h.2))
+      (requests, old, answered, inr (status, all_refused input rest after requests status led gives, s, h))
   by_error wire.Closed (AfterError t) gives s h = absurd h
   by_error wire.Closed Stopped gives s h = absurd h
   by_error wire.Closed ReadFault gives s h = absurd h
@@ -195,14 +199,13 @@ pub refusal_is : (reply : Reply) (status : ℕ) → reply ≡ bare status None �
 refusal_is reply status same = ap (λ (r : Reply). wire_bytes r.status r.kind r.allow true r.body) same
 
 -- what becomes of a link whose refusal isn't told whole
-pub closing_cut : (end : End) (status told : ℕ) (old new : Bytes) → (IsRefusalStatus status → told ≡ status)
-    → Sending (refusal_bytes told) old (Some end) new → Closing (wire.Bad status) old end new
-closing_cut WriteFault status told old new same h = (told, same, h)
-closing_cut Memory status told old new same h = h
-closing_cut ByClient status told old new same h = absurd h
-closing_cut (AfterError s) status told old new same h = absurd h
-closing_cut Stopped status told old new same h = absurd h
-closing_cut ReadFault status told old new same h = absurd h
+pub closing_cut : (end : End) (status : ℕ) (old new : Bytes) → Sending (refusal_bytes status) old (Some end) new → Closing (wire.Bad status) old end new
+closing_cut WriteFault status old new h = h
+closing_cut Memory status old new h = h
+closing_cut ByClient status old new h = absurd h
+closing_cut (AfterError s) status old new h = absurd h
+closing_cut Stopped status old new h = absurd h
+closing_cut ReadFault status old new h = absurd h
 
 -- what a service answers is the reply, as far as memory goes
 pub reply_of : {State : Type 0} (acts : Acts State) (old new : State) (request : Request) (asked : Ask) (answer : Result Answer NoMemory) (made : Result Reply NoMemory) → HasRoute request.method request.target asked → acts old request answer new → IfOk made (λ reply. reply ≡ for_answer answer) → IfOk made (λ reply. IsReply acts old request reply new)

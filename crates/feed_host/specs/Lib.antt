@@ -1,5 +1,4 @@
 pub mod Laws
 pub mod Replies
 pub mod Serving
-pub mod Statuses
 pub mod Steps

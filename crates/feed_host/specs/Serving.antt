@@ -2,6 +2,7 @@
 use Rattle.std.specs.Prelude.{◌≡◌, ◌⊎◌, ◌≤◌, ℕ, true, false, List, [], ◌∷◌, ◌++◌, length, take, Option, IfSome, option_map}
 use Rattle.feed_routes.specs.Services.{Acts}
 use Rattle.http_wire.specs.Ask.{Ask, Whole}
+use Rattle.http_wire.specs.Statuses.{IsRefusalStatus}
 use Rattle.http_wire.specs.Talk.{AfterLast, AtEnd, AtRefusal, LeadsTo, Talk}
 use Rattle.http_wire.specs.declared.request.Request.{Request}
 use Rattle.feed_host.specs.Replies.{IsReply, refusal_bytes, reply_bytes}
@@ -86,3 +87,8 @@ EndsBehind acts input requests old Memory new = GivesUp acts input requests old 
 abbrev pub Serves : {State : Type 0} → Acts State → Option (List ℕ) → Progress State → End → Progress State → Type 0
 Serves {State} acts input old end new =
     (requests : List Request) × (between : Progress State) × AreAnswered acts old requests between × EndsBehind acts input requests between end new
+
+-- where the link ends behind a refusal, that has one of the five statuses
+abbrev pub HasStatus : End → Type 0
+HasStatus (AfterError status) = IsRefusalStatus status
+HasStatus _ = Unit {0}

@@ -9,7 +9,6 @@ use Rattle.http_wire.specs.declared.request.WireErr.{WireErr}
 use Rattle.http_wire.specs.declared.request.WireErr.TheVariants as wire
 use Rattle.feed_host.specs.Replies.{IsReply, refusal_bytes, reply_bytes}
 use Rattle.feed_host.specs.Serving.{IsExchange, Progress, SendsPart, sent}
-use Rattle.feed_host.specs.Statuses.{IsRefusalStatus}
 use Rattle.feed_host.specs.declared.end.End.{End}
 use Rattle.feed_host.specs.declared.end.End.TheVariants.{ByClient, AfterError, Stopped, ReadFault, WriteFault, Memory}
 use Rattle.feed_host.specs.declared.reply.Reply.{Reply}
@@ -38,8 +37,8 @@ abbrev pub Closing : WireErr → Option (List ℕ) → End → Option (List ℕ)
 Closing wire.Closed old ByClient new = new ≡ old
 Closing wire.ReadFault old ReadFault new = new ≡ old
 Closing wire.Memory old Memory new = new ≡ old
-Closing (wire.Bad status) old (AfterError told) new = (IsRefusalStatus status → told ≡ status) × (new ≡ sent (refusal_bytes told) old)
-Closing (wire.Bad status) old WriteFault new = (told : ℕ) × (IsRefusalStatus status → told ≡ status) × SendsPart (refusal_bytes told) old new
+Closing (wire.Bad status) old (AfterError told) new = (told ≡ status) × (new ≡ sent (refusal_bytes status) old)
+Closing (wire.Bad status) old WriteFault new = SendsPart (refusal_bytes status) old new
 Closing (wire.Bad status) old Memory new = new ≡ old
 Closing _ old _ new = ⊥
 

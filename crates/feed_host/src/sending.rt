@@ -1,10 +1,8 @@
 // What is written to a link.
-ghost use Rattle.std.specs.Prelude.{◌≡◌, ◌++◌, IsSome, IfOk, Some};
+ghost use Rattle.std.specs.Prelude.{◌≡◌, ◌++◌, IfOk, Some};
 ghost use Rattle.feed_base.specs.Counts.{CountsFault};
-ghost use Rattle.http.specs.StatusCode.{reason_phrase};
 ghost use Rattle.http_wire.specs.Response.{wire_bytes};
 ghost use Rattle.feed_host.specs.Replies.{IsSendable};
-ghost use Rattle.feed_host.specs.Statuses.{IsRefusalStatus};
 ghost use Rattle.feed_host.specs.Steps.{Sending};
 
 use crate::End;
@@ -28,17 +26,5 @@ pub fn send<L: Link>(alloc: Global, link: &mut L, reply: &Reply, last: bool) -> 
     match link.write(bytes.as_slice()) {
         Ok(()) => None,
         Err(_) => Some(End::WriteFault),
-    }
-}
-
-/// The status of a refusal, which has a phrase.
-pub fn refusal_status(status: u16) -> u16
-    ensures phrase { IsSome (reason_phrase result) }
-    ensures other { result ≡ 405 → ⊥ }
-    ensures same { IsRefusalStatus status → result ≡ status }
-{
-    match status {
-        413 | 415 | 431 | 501 => status,
-        _ => 400,
     }
 }

@@ -1,16 +1,17 @@
 // The requests of a link, one after the other.
-ghost use Rattle.std.specs.Prelude.{◌≡◌, ◌⊎◌, Some, IfOk, IfErr, IsErr, OnErr};
+ghost use Rattle.std.specs.Prelude.{◌≡◌, ◌⊎◌, Some, IfOk, IfErr, IfSome, IsErr, OnErr};
 ghost use Rattle.feed_base.specs.Counts.{CountsFault};
 ghost use Rattle.http_wire.specs.Reading.{GivesRequest, pending};
+ghost use Rattle.http_wire.specs.Statuses.{HasRefusalStatus};
 ghost use Rattle.feed_routes.specs.Services.{IsStatus};
 ghost use Rattle.feed_host.specs.Replies.{IsReply, IsSendable};
-ghost use Rattle.feed_host.specs.Serving.{Serves, progress};
+ghost use Rattle.feed_host.specs.Serving.{HasStatus, Serves, progress};
 ghost use Rattle.feed_host.specs.Steps.{Answering, Closing, Next, end_behind};
 ghost use Rattle.feed_host.specs.declared.reply.Reply.{Reply};
 
 use crate::End;
 use crate::reply::Reply;
-use crate::sending::{refusal_status, send};
+use crate::sending::send;
 use feed_base::Link;
 use feed_routes::{RouteErr, Service, route};
 use http_wire::{Request, WireErr, WireIn, read_request};
@@ -79,7 +80,9 @@ fn answer<S: Service, L: Link>(
 
 // Ends the link, since there is no request.
 fn end_without<L: Link>(alloc: Global, link: &mut L, why: WireErr) -> End
+    requires { HasRefusalStatus why }
     ensures closes { Closing why (L.written link.old) result (L.written link.new) }
+    ensures status { HasStatus result }
     ensures counted { CountsFault (L.write_faults link.old) (L.write_faults link.new) (result ≡ End.WriteFault) }
     ensures same_left { L.left link.new ≡ L.left link.old }
     ensures same_read_faults { L.read_faults link.new ≡ L.read_faults link.old }
@@ -89,7 +92,6 @@ fn end_without<L: Link>(alloc: Global, link: &mut L, why: WireErr) -> End
         WireErr::ReadFault => End::ReadFault,
         WireErr::Memory => End::Memory,
         WireErr::Bad(status) => {
-            let status = refusal_status(status);
             match send(alloc, link, &Reply::bare(alloc, status, None), true) {
                 None => End::AfterError(status),
                 Some(end) => end,
@@ -109,6 +111,7 @@ fn serve_next<S: Service, L: Link>(
     ensures fit { S.fit service.new }
     ensures next { Next S.acts (pending wire.old (L.left link.old)) (progress (S.state service.old) (L.written link.old)) result
         (pending wire.new (L.left link.new)) (progress (S.state service.new) (L.written link.new)) }
+    ensures status { IfSome result HasStatus }
     ensures read_faults { CountsFault (L.read_faults link.old) (L.read_faults link.new) (result ≡ Some End.ReadFault) }
     ensures write_faults { CountsFault (L.write_faults link.old) (L.write_faults link.new) (result ≡ Some End.WriteFault) }
 {
@@ -132,6 +135,9 @@ pub fn serve_asks<R: Wait, S: Service, L: Link>(
     // Some requests of the input are answered, in order, and then the link ends so.
     ensures serves { Serves S.acts (L.left link.old) (progress (S.state service.old) (L.written link.old)) result
         (progress (S.state service.new) (L.written link.new)) }
+
+    // A refusal has one of the five statuses, also where the link tells nothing.
+    ensures status { HasStatus result }
 
     // At most the last read and the last write failed, and then it answers so.
     ensures read_faults { CountsFault (L.read_faults link.old) (L.read_faults link.new) (result ≡ End.ReadFault) }
