@@ -3,14 +3,18 @@
 # same puts with all their syncs. The two take turns, publish by publish, so that the disk is the same for both. Then the
 # three hives of catalogs of 128, 256 and 512 packages, each hive by one process, beside the bare puts of the same
 # documents. Then commits of 64 packages beside the same packages one by one, and openings of catalogs of 2,000 to 200,000
-# items beside a program of Python that reads and parses the same pages with its own JSON reader. It takes some minutes, and
-# prints the times and their ratios. It is skipped where python3, a C compiler or the program is missing.
+# items beside a program of Python that reads and parses the same pages with its own JSON reader. Last the requests of a link
+# in memory that are served in a second, beside the same loop in Rust over stock httparse, with the allocations of each. It
+# takes some minutes, and prints the times and their ratios. It is skipped where python3, a C compiler or the program is
+# missing, and the last part also where `host_speed`, cargo or the source of httparse is.
 #
-# Use: sh checks/speed.sh [PROGRAM]
-# PROGRAM is crates/feed/out/feed unless it is given.
+# Use: sh checks/speed.sh [PROGRAM [SERVING]]
+# PROGRAM is crates/feed/out/feed unless it is given, and SERVING crates/host_speed/out/host_speed. The source of httparse is
+# looked for at $HTTPARSE, and else where Debian's librust-httparse-dev puts it.
 
 here=$(dirname "$0")
 feed=${1:-$here/../crates/feed/out/feed}
+serving=${2:-$here/../crates/host_speed/out/host_speed}
 for tool in python3 cc; do
   if ! command -v "$tool" >/dev/null 2>&1; then
     echo "checks/speed.sh: skipped, since there is no $tool"
@@ -28,10 +32,10 @@ trap 'rm -rf "$work"' EXIT
 trap 'exit 1' HUP INT TERM
 cc -O2 -o "$work/puts" "$here/puts.c" || exit 1
 
-python3 - "$feed" "$work" <<'EOF'
-import json, os, shutil, subprocess, sys, time
+python3 - "$feed" "$work" "$serving" "$here" <<'EOF'
+import glob, json, os, shutil, subprocess, sys, time
 
-feed, work = sys.argv[1], sys.argv[2]
+feed, work, serving, here = sys.argv[1:]
 store, plain = work + "/store", work + "/plain/catalog"
 MOST, LIMIT = 100, 60.0
 SIZES, HIVES = [128, 256, 512], ["plain", "semver2", "content"]
@@ -170,6 +174,48 @@ def openings():
         print(f"opening {items} items, {length / (1 << 20):.1f} MiB of pages: {ours * 1000:.0f} ms, {ours / items * 1e6:.2f} us an item, "
               f"{memory / 1024:.1f} MiB of memory at the most; Python's reader {theirs * 1000:.0f} ms, ratio {ours / theirs:.2f}")
 
+def beside_httparse():
+    """The program of the same loop in Rust, if it can be made."""
+    sources = [os.environ["HTTPARSE"]] if "HTTPARSE" in os.environ else glob.glob("/usr/share/cargo/registry/httparse-*")
+    if not sources or not shutil.which("cargo") or not os.access(serving, os.X_OK):
+        return None
+    folder = work + "/serve"
+    os.makedirs(folder + "/src")
+    shutil.copy(here + "/serve.rs", folder + "/src/main.rs")
+    with open(folder + "/Cargo.toml", "w", encoding="utf-8") as file:
+        file.write(f'[package]\nname = "serve"\nversion = "0.1.0"\nedition = "2021"\n'
+                   f'[dependencies]\nhttparse = {{ path = "{sources[0]}" }}\n[profile.release]\nopt-level = 3\n')
+    made = subprocess.run(["cargo", "build", "--release", "--offline", "--quiet"], cwd=folder, stderr=subprocess.DEVNULL)
+    return folder + "/target/release/serve" if made.returncode == 0 else None
+
+def answered(program, requests, environment=None):
+    begin = time.monotonic()
+    ran = subprocess.run([program], input=b"%d\n" % requests, stdout=subprocess.PIPE, stderr=subprocess.PIPE, env=environment)
+    spent = time.monotonic() - begin
+    if ran.stdout != b"ByClient %d\n" % (93 * requests):
+        sys.exit(f"checks/speed.sh: {program} told {ran.stdout}")
+    return spent, ran.stderr
+
+def allocations(program):
+    """How many times a request takes memory, by two runs of which one has a thousand requests more."""
+    counted = {**os.environ, "LD_PRELOAD": work + "/allocs.so"}
+    few, many = (int(answered(program, requests, counted)[1]) for requests in [1000, 2000])
+    return (many - few) / 1000
+
+def requests():
+    theirs = beside_httparse()
+    made = subprocess.run(["cc", "-O2", "-shared", "-fPIC", "-o", work + "/allocs.so", here + "/allocs.c"])
+    if theirs is None or made.returncode != 0:
+        print("requests of a link: skipped, since there is no program of it, no cargo or no httparse")
+        return
+    count, times = 1_000_000, {serving: [], theirs: []}
+    for _ in range(5):
+        for program in times:
+            times[program].append(answered(program, count)[0])
+    ours, beside = min(times[serving]), min(times[theirs])
+    print(f"{count} requests of a link, each answered with 22 bytes: {count / ours:.0f} a second with {allocations(serving):.0f} "
+          f"allocations each, by stock httparse in Rust {count / beside:.0f} with {allocations(theirs):.0f}, ratio {beside / ours:.2f}")
+
 if subprocess.run([feed, store, "init", "http://f.test/"], stdout=subprocess.DEVNULL).returncode != 0:
     sys.exit("checks/speed.sh: init failed")
 child = bare_puts(plain)
@@ -189,4 +235,5 @@ for size in SIZES:
 one_id()
 together()
 openings()
+requests()
 EOF
