@@ -26,7 +26,7 @@ use Rattle.feed_laws.specs.Steps.{Run, with_area}
 use Rattle.feed_laws.specs.Worlds.{World}
 
 -- each of the calls puts a leaf or a staged blob of the commit behind the last
-abbrev AreObjects : Catalog → List Call → Type 0
+abbrev pub AreObjects : Catalog → List Call → Type 0
 AreObjects cs [] = Unit {0}
 AreObjects cs (Put name bytes ∷ calls) = IsObjectPut cs name × AreObjects cs calls
 AreObjects cs (Remove name ∷ calls) = ⊥
@@ -38,7 +38,7 @@ staged_objects cs number place (Some s) calls next all = (
   ((place, inr (inr (ap (λ (n : ℕ). nuspec_name n place) next))), all),
 )
 
-places_objects : (cs : Catalog) (base : List ℕ) (number stamp from : ℕ) (items : List Item) (staged : List (Option Staged)) → number ≡ length cs + 1
+pub places_objects : (cs : Catalog) (base : List ℕ) (number stamp from : ℕ) (items : List Item) (staged : List (Option Staged)) → number ≡ length cs + 1
     → AreObjects cs (place_puts base number stamp from items staged)
 places_objects cs base number stamp from [] staged next = tt
 places_objects cs base number stamp from (it ∷ items) [] next =

@@ -1,7 +1,9 @@
 pub mod Begun
+pub mod Called
 pub mod CatalogKept
 pub mod Changed
 pub mod Committed
+pub mod HiveCalled
 pub mod HiveKept
 pub mod Kept
 pub mod Lists

@@ -1,4 +1,5 @@
 pub mod Begins
+pub mod Calls
 pub mod Courses
 pub mod Happenings
 pub mod Rounds

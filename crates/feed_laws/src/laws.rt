@@ -1,15 +1,22 @@
 // What stays true of a feed, whatever happens to it.
-ghost use Rattle.std.specs.Prelude.{◌≡◌, ◌++◌, ◌∷◌, [], ℕ, List, Some, true};
+ghost use Rattle.std.specs.Prelude.{◌≡◌, ◌++◌, ◌∷◌, [], ℕ, List, Some, map, true};
 ghost use Rattle.std.specs.Str.{IsUtf8};
 ghost use Rattle.blob_store.specs.Area.{Area};
-ghost use Rattle.blob_store.specs.Events.{Done};
+ghost use Rattle.blob_store.specs.Events.{Change, Done};
+ghost use Rattle.blob_store.specs.Plans.{all_done};
+ghost use Rattle.pkg_meta.specs.Catalog.{Catalog};
 ghost use Rattle.pkg_meta.specs.declared.commit.Stored.{Stored};
+ghost use Rattle.pkg_meta.specs.declared.state.StateDoc.{StateDoc};
 ghost use Rattle.catalog_doc.specs.Catalogs.{IsCatalog};
+ghost use Rattle.catalog_doc.specs.Commits.{commit_puts};
 ghost use Rattle.catalog_doc.specs.Spelled.{HoldsIndex, SpellsCatalog, SpellsOnly};
 ghost use Rattle.fold_core.specs.Docs.{owner};
-ghost use Rattle.fold_core.specs.Folds.{Fold};
+ghost use Rattle.fold_core.specs.Folds.{Fold, Look};
+ghost use Rattle.hive_laws.specs.FoldLaws.{FoldLaws};
 ghost use Rattle.hive_laws.specs.Plans.{IsPassPlan, PassPlan};
+ghost use Rattle.hive_laws.specs.Rounds.{StartsAreaPass, plan_calls};
 ghost use Rattle.feed_laws.specs.Begins.{AreSoundAreas, IsWorldOf, new_world};
+ghost use Rattle.feed_laws.specs.Calls.{MeetAllOnCatalog, MeetAllOnHive};
 ghost use Rattle.feed_laws.specs.Courses.{after_commit, all_fine, commit_steps, pass_course};
 ghost use Rattle.feed_laws.specs.Happenings.{Finish, Happening, Hives, PutCursor, Reply};
 ghost use Rattle.feed_laws.specs.Soundness.{CursorsRise, HaveLaws, IsFromScratch, IsSettledNow, Sound, fold_at};
@@ -74,4 +81,13 @@ pub fn passes_are_steps()
 pub fn restarts_find_commits()
     ensures { (fs : List Fold) → HaveLaws fs → (w : World) (es : List Happening) (replies : List Reply) (last : World) → Sound fs w
         → Run fs w es replies last → SpellsCatalog last.area w.base (w.commits ++ commits_in es) × SpellsOnly last.area w.base (w.commits ++ commits_in es) }
+{}
+
+/// The calls of a lawful commit meet their conditions, each in the area that those before it left, where the index doesn't lag; and they
+/// lead on to the catalog with the commit. So do those of a pass by its plan, on a hive's area. It does nothing.
+pub fn calls_meet_conditions()
+    ensures commit { (m : Area) (base : List ℕ) (cs : Catalog) (c : Stored) → IsCatalog (cs ++ c ∷ []) → SpellsCatalog m base cs → HoldsIndex m base cs
+        → MeetAllOnCatalog base cs m (all_done (map Change (commit_puts base cs c))) (cs ++ c ∷ []) }
+    ensures pass { (f : Fold) (cs : Catalog) → FoldLaws f cs → (c k : ℕ) (key : List ℕ) (states : Look StateDoc) (m : Area) (plan : PassPlan)
+        → StartsAreaPass f cs c k key states m plan → MeetAllOnHive f cs k m (all_done (map Change (plan_calls key plan))) }
 {}

@@ -1,0 +1,3 @@
+pub mod Committed
+pub mod Opened
+pub mod Still
