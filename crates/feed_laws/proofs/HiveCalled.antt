@@ -1,6 +1,6 @@
 -- Calls on a hive's area that meet their conditions: one list behind another, a front of a list, and those of a pass.
 use Rattle.std.proofs.Common.{◌≡◌, ◌≢◌, ◌<◌, ◌≤◌, ◌⊎◌, inl, inr, ⊎_elim, ℕ, List, [], ◌∷◌, ◌++◌, length, map, codes, Option, None, Some, refl, sym, ◌∙◌, ap, subst, arith}
-use Rattle.std.specs.Prelude.{IfSome, IsSome, option_map, take}
+use Rattle.std.specs.Prelude.{IsSome, take}
 use Rattle.std.specs.FinMap.{get}
 use Rattle.blob_store.specs.Area.{Area, changed}
 use Rattle.blob_store.specs.Events.{Act, Get, Change, Done, Event, Fate, after_event}
@@ -13,14 +13,13 @@ use Rattle.blob_store.specs.declared.error.BlobErr.{BlobErr}
 use Rattle.blob_store.proofs.Areas.{get_changed_other, get_changed_same}
 use Rattle.pkg_meta.specs.Catalog.{Catalog}
 use Rattle.pkg_meta.specs.declared.state.StateDoc.{StateDoc}
-use Rattle.hive_state.specs.Reading.{IsStateValue}
 use Rattle.hive_state.specs.State.{state_name, state_text}
 use Rattle.fold_core.specs.Docs.{index_name, owner}
-use Rattle.fold_core.specs.Events.{IsDirtyPut, IsCleanPut, IsDocDelete, IsDocPut, IsIndexDone}
+use Rattle.fold_core.specs.Events.{IsIndexDone}
 use Rattle.fold_core.specs.Folds.{Fold, Look, made_at, touched_by}
 use Rattle.fold_core.specs.Items.{commits_of}
+use Rattle.fold_core.specs.Sound.{IsSoundId}
 use Rattle.fold_core.proofs.DocNames.{owner_of}
-use Rattle.hive_laws.specs.Areas.{IsSoundArea}
 use Rattle.hive_laws.specs.FoldLaws.{FoldLaws}
 use Rattle.hive_laws.specs.Plans.{PassPlan, pass_steps}
 use Rattle.hive_laws.specs.Rounds.{IsAreaPlan, IsStored, call_of, plan_calls}
@@ -158,19 +157,18 @@ module _ (f : Fold) (cs : Catalog) (k : ℕ) where
     )
 
   -- the calls of a pass by its plan
-  module _ (laws : FoldLaws f cs) (c : ℕ) (key : List ℕ) (states : Look StateDoc) (m : Area) (plan : PassPlan) (area : IsSoundArea f cs c states m)
-      (item : c < touched_by cs key k) (reached : k ≤ length cs) (is_plan : IsAreaPlan f cs key k (states key) m plan) where
+  module _ (laws : FoldLaws f cs) (c : ℕ) (key : List ℕ) (stored : Option StateDoc) (m : Area) (plan : PassPlan) (sound : IsSoundId f cs c key stored (get m))
+      (is_stored : IsStored key m stored) (item : c < touched_by cs key k) (reached : k ≤ length cs) (is_plan : IsAreaPlan f cs key k stored m plan) where
     abbrev kept_before : KeptOfId
-    kept_before = record { stored = states key; held = get m }
+    kept_before = record { stored = stored; held = get m }
 
     allowed : AreAllowed f cs key k (pass_steps key plan) kept_before
-    allowed = pass_allowed f cs laws c k key kept_before plan (area.sound.ids key) item is_plan.leads
+    allowed = pass_allowed f cs laws c k key kept_before plan sound item is_plan.leads
 
     whole : owner (index_name key) ≡ Some key
     whole = owner_of key (codes "index.json") (item_whole (take k (commits_of cs)) key (omega arith))
 
     pub pass_meets : MeetAllOnHive f cs k m (all_done (map Change (plan_calls key plan)))
     pass_meets = steps_meet laws key whole (pass_steps key plan) kept_before m
-        (own_steps f cs laws c k key item reached (pass_steps key plan) kept_before (area.sound.ids key) allowed)
-        (plan_values key plan is_plan.dirty is_plan.clean) (λ q own. refl)
-        (record { value = area.area.values key; held = area.area.held key }) allowed
+        (own_steps f cs laws c k key item reached (pass_steps key plan) kept_before sound allowed)
+        (plan_values key plan is_plan.dirty is_plan.clean) (λ q own. refl) is_stored allowed

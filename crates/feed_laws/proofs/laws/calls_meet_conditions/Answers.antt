@@ -7,4 +7,5 @@ returns-clause-commit c = λ m base cs x whole spells settled. commit_meets base
 
 pub returns-clause-pass : goal.returns-clause-pass
 returns-clause-pass c = λ f cs laws cursor k key states m plan starts.
-    pass_meets f cs k laws cursor key states m plan starts.area starts.item starts.reached starts.leads
+    pass_meets f cs k laws cursor key (states key) m plan (starts.area.sound.ids key)
+    (record { value = starts.area.area.values key; held = starts.area.area.held key }) starts.item starts.reached starts.leads
