@@ -1,3 +1,4 @@
 pub mod Committed
 pub mod Opened
+pub mod Stepped
 pub mod Still

@@ -1,5 +1,5 @@
 // What holds of each store call of a commit, of a settling and of an opening.
-ghost use Rattle.std.specs.Prelude.{ℕ, List, Result};
+ghost use Rattle.std.specs.Prelude.{◌≡◌, ℕ, List, Result, true};
 ghost use Rattle.std.specs.declared.result.Result.TheVariants.{Ok};
 ghost use Rattle.blob_store.specs.Area.{Area};
 ghost use Rattle.blob_store.specs.Events.{Act};
@@ -11,8 +11,10 @@ ghost use Rattle.catalog_opening.specs.declared.error.OpenErr.{OpenErr};
 ghost use Rattle.catalog_opening.specs.declared.error.ReadErr.{ReadErr};
 ghost use Rattle.catalog_core.specs.Committing.{with_made};
 ghost use Rattle.catalog_core.specs.Opened.{Opened};
-ghost use Rattle.commit_calls.specs.Called.{Committing, Opening, Settling};
-ghost use Rattle.feed_laws.specs.Calls.{CallsMeetOnCatalog};
+ghost use Rattle.commit_calls.specs.Called.{Committing, IsFeedOf, Opening, Settling};
+ghost use Rattle.feed_laws.specs.Calls.{CallsMeetOnCatalog, RunsInCalls};
+ghost use Rattle.feed_laws.specs.Worlds.{World};
+ghost use Rattle.fold_core.specs.Folds.{Fold};
 
 use blob_store::Blobs;
 
@@ -36,4 +38,18 @@ pub fn openings_meet_conditions<B: Blobs>()
     ensures settling { (o : Opened B) (after : B) (cs : Catalog) (m : Area) (result : Result Unit ReadErr)
         → Settling o cs m (B.seen o.area) (B.seen after) result
         → CallsMeetOnCatalog o.base cs m (B.seen o.area) (B.seen after) cs }
+{}
+
+/// The store calls of a commit, and those of an opening, are steps of a feed that has this area and this catalog, whatever the answer and
+/// wherever a call fails. Where the commit answered Ok the feed then has the commit. It does nothing.
+pub fn commits_are_runs<B: Blobs>()
+    ensures commit { (fs : List Fold) (w : World) (o n : Opened B) (changes : List Change) (now : ℕ) (result : Result Committed CommitErr)
+        → IsFeedOf o w → Committing o n w.commits changes now w.area (B.seen o.area) (B.seen n.area) result
+        → (last : Catalog) × RunsInCalls fs w (B.seen o.area) (B.seen n.area) last }
+    ensures committed { (fs : List Fold) (w : World) (o n : Opened B) (changes : List Change) (now : ℕ) (done : Committed)
+        → IsFeedOf o w → Committing o n w.commits changes now w.area (B.seen o.area) (B.seen n.area) (Ok done)
+        → RunsInCalls fs w (B.seen o.area) (B.seen n.area) (with_made w.commits changes now) }
+    ensures opening { (fs : List Fold) (w : World) (before after : B) (plan : List Act) (result : Result Unit OpenErr) → w.up ≡ true
+        → Opening w.base w.commits plan w.area (B.seen before) (B.seen after) result
+        → RunsInCalls fs w (B.seen before) (B.seen after) w.commits }
 {}

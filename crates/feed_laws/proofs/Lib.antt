@@ -10,3 +10,4 @@ pub mod Lists
 pub mod Moves
 pub mod Passed
 pub mod Restarted
+pub mod Stepped

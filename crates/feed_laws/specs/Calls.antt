@@ -2,7 +2,7 @@
 use Rattle.std.specs.Prelude.{◌≡◌, ◌⊎◌, ℕ, List, [], ◌∷◌, ◌++◌, if◌then◌else◌, Option, Some, ⊤}
 use Rattle.std.specs.FinMap.{get}
 use Rattle.blob_store.specs.Area.{Area}
-use Rattle.blob_store.specs.Events.{Act, Get, Change, Event, after_event}
+use Rattle.blob_store.specs.Events.{Act, Get, Change, Event, Fate, after_event, after_events}
 use Rattle.blob_store.specs.Seen.{Seen}
 use Rattle.blob_store.specs.Tracked.{Tracked}
 use Rattle.blob_store.specs.declared.call.Call.TheVariants.{Put, Remove}
@@ -16,7 +16,9 @@ use Rattle.fold_core.specs.Events.{IsCleanPut, IsDirtyPut, IsDocDelete, IsDocPut
 use Rattle.fold_core.specs.Folds.{Fold, Look, Settled}
 use Rattle.hive_laws.specs.Areas.{cursor_at}
 use Rattle.hive_laws.specs.Rounds.{IsStored}
-use Rattle.feed_laws.specs.Happenings.{took}
+use Rattle.feed_laws.specs.Happenings.{Catalogs, Happening, InCatalog, PutIndex, PutObject, PutPage, Reads, took}
+use Rattle.feed_laws.specs.Steps.{Run}
+use Rattle.feed_laws.specs.Worlds.{World}
 
 -- A put into the catalog's area leads on to this catalog: one of a leaf or of a staged blob, or of the index, to the one that there is; one
 -- of a page, to the one with its commit.
@@ -39,6 +41,32 @@ MeetAllOnCatalog base cs m (e ∷ es) last = (next : Catalog) × MeetsOnCatalog 
 -- the calls between two moments of the catalog's store did so
 abbrev pub CallsMeetOnCatalog : List ℕ → Catalog → Area → Seen → Seen → Catalog → Type 0
 CallsMeetOnCatalog base cs m old new last = (events : List Event) × Tracked events old new × MeetAllOnCatalog base cs m events last
+
+-- the feed with this catalog and this area of it
+abbrev pub with_catalog : Catalog → Area → World → World
+with_catalog cs area w = record w { commits = cs; area = area }
+
+-- a step is this call on the catalog's area, with this fate
+abbrev pub IsStepAs : Act → Fate → Happening → Type 0
+IsStepAs (Get name) fate step = step ≡ Reads (InCatalog name) fate
+IsStepAs (Change (Put name bytes)) fate step = (step ≡ Catalogs (PutObject name bytes fate))
+    ⊎ ((step ≡ Catalogs (PutIndex name bytes fate)) ⊎ ((c : Stored) × (step ≡ Catalogs (PutPage c name bytes fate))))
+IsStepAs (Change (Remove name)) fate step = ⊥
+
+abbrev pub IsStepOf : Event → Happening → Type 0
+IsStepOf event step = IsStepAs event.act event.fate step
+
+-- so is each of these, in order
+abbrev pub AreStepsOf : List Event → List Happening → Type 0
+AreStepsOf [] [] = ⊤
+AreStepsOf [] (step ∷ steps) = ⊥
+AreStepsOf (event ∷ events) [] = ⊥
+AreStepsOf (event ∷ events) (step ∷ steps) = IsStepOf event step × AreStepsOf events steps
+
+-- the feed ran in these calls between two moments of the catalog's store, and then has this catalog; its hives are as before
+abbrev pub RunsInCalls : List Fold → World → Seen → Seen → Catalog → Type 0
+RunsInCalls fs w old new last = (events : List Event) × (steps : List Happening) × Tracked events old new × AreStepsOf events steps
+    × Run fs w steps (with_catalog last (after_events events w.area) w)
 
 -- a put into a hive's area of a state that stands at commit k, as dirty or as clean, where the id has this stored state, or none
 abbrev pub PutsState : Fold → Catalog → ℕ → Area → (name bytes : List ℕ) → Type 0
