@@ -1,5 +1,5 @@
 -- The calls of a commit.
-use Rattle.std.proofs.Common.{◌≡◌, ⊎_elim, ℕ, List, [], ◌∷◌, ◌++◌, map, Option, None, Some, Ok, Err, Result, refl, sym, ◌∙◌, ap, subst}
+use Rattle.std.proofs.Common.{◌≡◌, ⊎_elim, ℕ, List, [], ◌++◌, map, Option, None, Some, Ok, Err, Result, refl, sym, ◌∙◌, ap, subst}
 use Rattle.std.specs.Prelude.{suc, take}
 use Rattle.blob_store.specs.Area.{Area}
 use Rattle.blob_store.specs.Events.{Act, Change}
@@ -8,7 +8,6 @@ use Rattle.blob_store.specs.Seen.{Seen}
 use Rattle.blob_store.specs.Steps.{after_plan}
 use Rattle.blob_store.specs.declared.error.BlobErr.TheVariants as blob
 use Rattle.pkg_meta.specs.Catalog.{Catalog}
-use Rattle.pkg_meta.specs.declared.commit.Stored.{Stored}
 use Rattle.catalog_doc.specs.CatDocs.{all_rows}
 use Rattle.catalog_doc.specs.Catalogs.{IsCatalog}
 use Rattle.catalog_doc.specs.Commits.{commit_puts, made}
@@ -20,7 +19,7 @@ use Rattle.catalog_doc.specs.declared.error.CommitErr.TheVariants as commit
 use Rattle.catalog_laws.proofs.Kept.{stays_catalog}
 use Rattle.catalog_rows.specs.Reasons.{misshapen}
 use Rattle.catalog_rows.proofs.Places.{or_first, parts}
-use Rattle.commit_plan.specs.Lookups.{listing_gets, refused_gets}
+use Rattle.commit_plan.specs.Lookups.{listing_gets}
 use Rattle.catalog_core.specs.Committing.{IsSettledBy, MayBeCommitted, RunsCommit, commit_acts, with_made}
 use Rattle.catalog_core.specs.Opened.{Opened}
 use Rattle.commit_calls.specs.Called.{Committing}
@@ -109,8 +108,11 @@ module _ {B : Type 0} (o n : Opened B) (cs : Catalog) (changes : List OneChange)
         (λ late. stop_meets base acts cs (with_made cs changes now) m (every_meets first by late.0) before after blob.Failed late.1) runs
     by_answer (Err (commit.Damaged name)) e runs may = absurd runs
     by_answer (Err commit.Memory) e runs may = ⊎_elim
-        (λ early. (cs, ⊎_elim (stop_still base cs (first ++ gets) m (gets_still first by) before after blob.Memory)
-        (some_still base cs (first ++ gets) m (gets_still first by) before after) early))
+        (λ early. (
+          cs,
+          ⊎_elim (stop_still base cs (first ++ gets) m (gets_still first by) before after blob.Memory)
+              (some_still base cs (first ++ gets) m (gets_still first by) before after) early,
+        ))
         (λ late. ⊎_elim (stop_meets base acts cs (with_made cs changes now) m (every_meets first by late.0) before after blob.Memory)
         (some_meet base acts cs (with_made cs changes now) m (every_meets first by late.0) before after) late.1) runs
     by_answer (Err (commit.Already place number)) e runs may =

@@ -1,7 +1,6 @@
 -- The calls of an opening and of a settling.
-use Rattle.std.proofs.Common.{◌≡◌, ◌⊎◌, ⊎_elim, ℕ, List, [], ◌∷◌, ◌++◌, ◌+◌, length, Bool, true, Option, Some, Ok, Err, Result, refl, sym, ◌∙◌, ap, subst}
-use Rattle.std.specs.FinMap.{get}
-use Rattle.blob_store.specs.Area.{Area, with_blob}
+use Rattle.std.proofs.Common.{◌≡◌, ◌⊎◌, ⊎_elim, ℕ, List, [], ◌∷◌, ◌++◌, ◌+◌, length, Some, Ok, Err, Result, refl, sym, ◌∙◌, ap, subst}
+use Rattle.blob_store.specs.Area.{Area}
 use Rattle.blob_store.specs.Events.{Act, Get, Change}
 use Rattle.blob_store.specs.Seen.{Seen}
 use Rattle.blob_store.specs.Steps.{after_plan}
@@ -9,7 +8,6 @@ use Rattle.blob_store.specs.declared.error.BlobErr.TheVariants as blob
 use Rattle.blob_store.proofs.Areas.{get_put_same}
 use Rattle.blob_store.proofs.Stepping.{after_plan-append}
 use Rattle.pkg_meta.specs.Catalog.{Catalog}
-use Rattle.pkg_meta.specs.declared.commit.Stored.{Stored}
 use Rattle.catalog_doc.specs.CatDocs.{heads_of}
 use Rattle.catalog_doc.specs.Commits.{index_put}
 use Rattle.catalog_doc.specs.Documents.{index_text}
@@ -17,7 +15,6 @@ use Rattle.catalog_doc.specs.Names.{index_name}
 use Rattle.catalog_doc.specs.Spelled.{HoldsIndex, SpellsCatalog}
 use Rattle.catalog_opening.specs.Openings.{IsOpeningPlan, opening_gets}
 use Rattle.catalog_opening.specs.Plans.{last_gets}
-use Rattle.catalog_opening.specs.Settlings.{settling_plan, with_more}
 use Rattle.catalog_opening.specs.declared.error.OpenErr.{OpenErr}
 use Rattle.catalog_opening.specs.declared.error.OpenErr.TheVariants as opening
 use Rattle.catalog_opening.specs.declared.error.ReadErr.{ReadErr}

@@ -5,7 +5,6 @@ use Rattle.blob_store.specs.Events.{Act, Get, Change, Event, Fate, after_event}
 use Rattle.blob_store.specs.Plans.{Makes, MakesSome, StopsAt, all_done}
 use Rattle.blob_store.specs.Seen.{Seen}
 use Rattle.blob_store.specs.Steps.{after_plan}
-use Rattle.blob_store.specs.declared.call.Call.{Call}
 use Rattle.blob_store.specs.declared.call.Call.TheVariants.{Put, Remove}
 use Rattle.blob_store.specs.declared.error.BlobErr.{BlobErr}
 use Rattle.pkg_meta.specs.Catalog.{Catalog}

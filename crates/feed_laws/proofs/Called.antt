@@ -3,7 +3,7 @@ use Rattle.std.proofs.Common.{◌≡◌, ◌+◌, inl, inr, List, ℕ, [], ◌�
 use Rattle.std.proofs.lemmas.List.{map-append}
 use Rattle.blob_store.specs.Area.{Area, with_blob}
 use Rattle.blob_store.specs.Events.{Act, Change, Done, Event, Fate, after_event}
-use Rattle.blob_store.specs.Plans.{EndsEarly, MakesSome, Makes, StopsAt, all_done}
+use Rattle.blob_store.specs.Plans.{MakesSome, Makes, StopsAt, all_done}
 use Rattle.blob_store.specs.Runs.{after_calls}
 use Rattle.blob_store.specs.Seen.{Seen}
 use Rattle.blob_store.specs.Steps.{after_plan}

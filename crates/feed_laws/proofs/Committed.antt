@@ -1,5 +1,5 @@
 -- The puts of a lawful commit are steps of the feed, in order.
-use Rattle.std.proofs.Common.{◌≡◌, ◌+◌, inl, inr, ℕ, suc, List, [], ◌∷◌, ◌++◌, length, true, Option, None, Some, refl, sym, ap, subst, arith, length-append}
+use Rattle.std.proofs.Common.{◌≡◌, ◌+◌, inl, inr, ℕ, suc, List, [], ◌∷◌, ◌++◌, length, true, Option, None, Some, refl, ap, arith, length-append}
 use Rattle.blob_store.specs.Area.{Area}
 use Rattle.blob_store.specs.Runs.{after_calls}
 use Rattle.blob_store.specs.declared.call.Call.{Call}

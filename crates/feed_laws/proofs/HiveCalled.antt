@@ -1,14 +1,13 @@
 -- Calls on a hive's area that meet their conditions: one list behind another, a front of a list, and those of a pass.
-use Rattle.std.proofs.Common.{◌≡◌, ◌≢◌, ◌<◌, ◌≤◌, ◌⊎◌, inl, inr, ⊎_elim, ℕ, List, [], ◌∷◌, ◌++◌, length, map, codes, Option, None, Some, refl, sym, ◌∙◌, ap, subst, arith}
+use Rattle.std.proofs.Common.{◌≡◌, ◌<◌, ◌≤◌, ◌⊎◌, inl, inr, ⊎_elim, ℕ, List, [], ◌∷◌, ◌++◌, length, map, codes, Option, None, Some, refl, sym, ◌∙◌, subst, arith}
 use Rattle.std.specs.Prelude.{IsSome, take}
 use Rattle.std.specs.FinMap.{get}
 use Rattle.blob_store.specs.Area.{Area, changed}
-use Rattle.blob_store.specs.Events.{Act, Get, Change, Done, Event, Fate, after_event}
-use Rattle.blob_store.specs.Plans.{EndsEarly, Makes, MakesSome, StopsAt, all_done}
+use Rattle.blob_store.specs.Events.{Act, Change, Done, Event, Fate, after_event}
+use Rattle.blob_store.specs.Plans.{Makes, MakesSome, StopsAt, all_done}
 use Rattle.blob_store.specs.Runs.{after_call}
 use Rattle.blob_store.specs.Seen.{Seen}
 use Rattle.blob_store.specs.Steps.{after_plan}
-use Rattle.blob_store.specs.declared.call.Call.{Call}
 use Rattle.blob_store.specs.declared.error.BlobErr.{BlobErr}
 use Rattle.blob_store.proofs.Areas.{get_changed_other, get_changed_same}
 use Rattle.pkg_meta.specs.Catalog.{Catalog}

@@ -1,9 +1,7 @@
 -- The calls of a round meet their conditions.
-use Rattle.std.proofs.Common.{◌≡◌, ◌⊎◌, inl, inr, ⊎_elim, ◌<◌, ℕ, List, [], ◌∷◌, ◌++◌, length, map, Option, Some, Ok, Err, Result, refl, sym, ◌∙◌, ap, subst, arith}
+use Rattle.std.proofs.Common.{◌≡◌, ◌⊎◌, inl, inr, ⊎_elim, ◌<◌, ℕ, List, [], ◌∷◌, ◌++◌, length, map, Option, Some, Ok, Err, Result, refl, sym, ◌∙◌, subst, arith}
 use Rattle.std.proofs.lemmas.Bool.{cases_lt}
 use Rattle.std.proofs.lemmas.List.Elements.{Contains-append_left, Contains-append_right}
-use Rattle.std.specs.FinMap.{get}
-use Rattle.std.specs.List.{Contains}
 use Rattle.blob_store.specs.Area.{Area}
 use Rattle.blob_store.specs.Events.{Act, Change, Get}
 use Rattle.blob_store.specs.Plans.{all_done}
@@ -15,7 +13,6 @@ use Rattle.pkg_meta.specs.Catalog.{Catalog}
 use Rattle.pkg_meta.specs.declared.entry.Entry.{Entry}
 use Rattle.catalog_doc.specs.Catalogs.{IsCatalog}
 use Rattle.cursor_doc.specs.Cursor.{cursor_name, cursor_text}
-use Rattle.hive_state.specs.State.{state_name}
 use Rattle.fold_core.specs.Docs.{Makes}
 use Rattle.fold_core.specs.Entries.{Keeps}
 use Rattle.fold_core.specs.Folds.{Fold, fold_of, touched_by}
@@ -32,7 +29,6 @@ use Rattle.id_pass.specs.declared.error.RoundErr.{RoundErr}
 use Rattle.id_pass.specs.declared.error.RoundErr.TheVariants as told
 use Rattle.id_pass.specs.declared.error.RoundOut.{RoundOut}
 use Rattle.id_pass.specs.declared.error.RoundOut.TheVariants.{Done, Idle}
-use Rattle.job_round.specs.Items.{keys_after}
 use Rattle.job_round.specs.Made.{AreMade, AreSomeMade}
 use Rattle.job_round.specs.Plans.{AreWholePasses, IsPartPass, Pass, TakesUp, held_after, keys_in, pass_plan, passes_plan}
 use Rattle.job_round.specs.Rounds.{EndsAt, IsTask, Rounds, cursor_put, round_plan}
