@@ -1,2 +1,2 @@
-pub mod Met
 pub mod Passed
+pub mod Rounded

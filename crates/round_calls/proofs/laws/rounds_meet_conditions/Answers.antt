@@ -1,6 +1,6 @@
 use Rattle.catalog_core.specs.Opened.{IsOpenFor}
 use Rattle.hive_laws.proofs.EveryHive.{fold_laws}
-use Rattle.round_calls.proofs.Met.{round_calls_meet}
+use Rattle.round_calls.proofs.Rounded.{round_calls_meet}
 use Rattle.round_calls.proofs.laws.rounds_meet_conditions.Goals as goal
 
 pub returns : goal.returns
