@@ -21,21 +21,28 @@ for crate in crates/*/; do
   printf '%-16s %8s %8s %8s %12s\n' "$name" "$(lines "$crate/src")" "$(lines "$crate/specs")" "$(lines "$crate/proofs")" "$edits"
 done
 
+# own FILE: the lines of it that are neither blank nor imports.
+own() {
+  grep -v '^\(pub \)\{0,1\}use ' "$1" | grep -vc '^ *$'
+}
+
 # A row of the reading list is: | for | `crate`: `File`, `File`; `crate`: `File` |
 echo
-echo 'Definitions to read, by docs/PROMISES.md:'
+echo 'Definitions to read, by docs/PROMISES.md: all lines, and those that are neither blank nor imports'
 sed -n '/^## Reading list/,$p' docs/PROMISES.md | grep '^| [^-F]' | while IFS='|' read -r _ what list _; do
   total=0
+  definitions=0
   for entry in $(echo "$list" | tr -d '` ' | tr ';' ' '); do
     crate=${entry%%:*}
     for file in $(echo "${entry#*:}" | tr ',' ' '); do
       path=crates/$crate/specs/$file.antt
       if [ -f "$path" ]; then
         total=$((total + $(wc -l <"$path")))
+        definitions=$((definitions + $(own "$path")))
       else
         echo "no file $path"
       fi
     done
   done
-  printf '%6s %s\n' "$total" "$(echo "$what" | sed 's/^ *//; s/ *$//')"
+  printf '%6s %6s %s\n' "$total" "$definitions" "$(echo "$what" | sed 's/^ *//; s/ *$//')"
 done

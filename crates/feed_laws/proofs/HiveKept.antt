@@ -2,6 +2,7 @@
 use Rattle.std.proofs.Common.{◌≡◌, ◌≢◌, ◌⊎◌, inl, inr, ⊎_elim, ◌<◌, ◌≤◌, ◌+◌, ℕ, List, [], ◌∷◌, ◌++◌, length, Bool, cond, Option, None, Some, option_map, refl, sym, ◌∙◌, ap, subst, arith}
 use Rattle.std.proofs.lemmas.Bool.{cases_lt, false_from_ne_true}
 use Rattle.std.proofs.lemmas.Slice.Eq.{bytes_eq-Decides}
+use Rattle.std.specs.Option.{option_map_or}
 use Rattle.std.specs.Prelude.{IsSome}
 use Rattle.std.specs.Str.{bytes_eq}
 use Rattle.blob_store.specs.Events.{Fate, Done, FailedOld, FailedNew, NoMemory}
@@ -20,12 +21,53 @@ use Rattle.hive_laws.proofs.More.{clean_more, commits_more, longer, more_sound}
 use Rattle.hive_laws.proofs.OneId.{advance, carry, carry_clean, delete_doc, put_clean, put_dirty, put_doc}
 use Rattle.feed_laws.specs.Happenings.{OnHive, Begin, Claim, Finish, Rest, Wake, PutState, PutDoc, DeleteDoc, PutCursor}
 use Rattle.feed_laws.specs.Rounds.{HasRound, IsRoundAt, IsRoundId, changed_keys, places, times, without}
-use Rattle.feed_laws.specs.Soundness.{IsSettledNow, IsSoundNow}
-use Rattle.feed_laws.specs.Steps.{IsAllDone, IsClaimed, IsStoredAt, MayBegin, MayOnHive, all_woken, hive_after, one_claimed, one_finished, one_rested, target_or, with_cursor, with_held, with_look, with_round, with_states}
+use Rattle.feed_laws.specs.Claims.{IsSettledNow}
+use Rattle.feed_laws.specs.Soundness.{IsSoundNow}
+use Rattle.feed_laws.specs.Steps.{IsAtRest, IsClaimed, MayBegin, MayOnHive, hive_after, one_claimed, with_look}
 use Rattle.feed_laws.specs.Worlds.{HiveNow, Round}
 use Rattle.feed_laws.proofs.Changed.{are_changed}
 use Rattle.feed_laws.proofs.Lists.{times-append, times_one, times_one_other, times_without, times_without_other}
 use Rattle.feed_laws.proofs.Moves.{all_clean, claimed_item, claimed_open, moved}
+
+-- parts of what happens
+abbrev one_finished : List ℕ → Round → Round
+one_finished key r = record r { claimed = without key r.claimed; finished = r.finished ++ key ∷ [] }
+
+abbrev one_rested : List ℕ → Round → Round
+one_rested key r = record r { claimed = without key r.claimed; resting = r.resting ++ key ∷ [] }
+
+abbrev all_woken : Round → Round
+all_woken r = record r { waiting = r.waiting ++ r.resting; resting = [] }
+
+abbrev with_round : Option Round → HiveNow → HiveNow
+with_round round h = record h { round = round }
+
+abbrev with_states : Look StateDoc → HiveNow → HiveNow
+with_states states h = record h { states = states }
+
+abbrev with_held : Look (List ℕ) → HiveNow → HiveNow
+with_held held h = record h { held = held }
+
+abbrev target_or : ℕ → Option Round → ℕ
+target_or c round = option_map_or (λ (r : Round). r.target) round c
+
+abbrev with_cursor : Fate → HiveNow → HiveNow
+with_cursor fate h = hive_after [] (PutCursor fate) h
+
+-- a round of which every id is done
+pub record IsAllDone (h : HiveNow) (r : Round) : Type 0 where
+  pub stands : h.round ≡ Some r
+  pub waiting : r.waiting ≡ []
+  pub claimed : r.claimed ≡ []
+  pub resting : r.resting ≡ []
+
+pub all_done : (h : HiveNow) (r : Round) → IsAtRest h r → r.resting ≡ [] → IsAllDone h r
+all_done h r rest none = record { stands = rest.stands; waiting = rest.waiting; claimed = rest.claimed; resting = none }
+
+-- the stored state of an id, with its `at` at the target
+record IsStoredAt (h : HiveNow) (key : List ℕ) (r : Round) (s : StateDoc) : Type 0 where
+  stored : h.states key ≡ Some s
+  at : s.at ≡ r.target
 
 -- look-ups
 pub with_look_here : {X : Type 0} (look : Look X) (name : List ℕ) (found : Option X) → with_look look name found name ≡ found
@@ -257,15 +299,15 @@ module _ (f : Fold) (cs : Catalog) (laws : FoldLaws f cs) where
   hive_kept h (PutState key s FailedOld) sound may = sound
   hive_kept h (PutState key s FailedNew) sound may = state_kept h key may.0 s sound may.1 may.2 may.3
   hive_kept h (PutState key s NoMemory) sound may = sound
-  hive_kept h (PutDoc key name bytes Done) sound may = doc_kept h key may.0 may.1 name bytes sound may.2 may.3 may.4
+  hive_kept h (PutDoc key name bytes Done) sound may = doc_kept h key may.0 may.1 name bytes sound may.2 (record { stored = may.3; at = may.4 }) may.5
   hive_kept h (PutDoc key name bytes FailedOld) sound may = sound
-  hive_kept h (PutDoc key name bytes FailedNew) sound may = doc_kept h key may.0 may.1 name bytes sound may.2 may.3 may.4
+  hive_kept h (PutDoc key name bytes FailedNew) sound may = doc_kept h key may.0 may.1 name bytes sound may.2 (record { stored = may.3; at = may.4 }) may.5
   hive_kept h (PutDoc key name bytes NoMemory) sound may = sound
-  hive_kept h (DeleteDoc key name Done) sound may = delete_kept h key may.0 may.1 name sound may.2 may.3 may.4
+  hive_kept h (DeleteDoc key name Done) sound may = delete_kept h key may.0 may.1 name sound may.2 (record { stored = may.3; at = may.4 }) may.5
   hive_kept h (DeleteDoc key name FailedOld) sound may = sound
-  hive_kept h (DeleteDoc key name FailedNew) sound may = delete_kept h key may.0 may.1 name sound may.2 may.3 may.4
+  hive_kept h (DeleteDoc key name FailedNew) sound may = delete_kept h key may.0 may.1 name sound may.2 (record { stored = may.3; at = may.4 }) may.5
   hive_kept h (DeleteDoc key name NoMemory) sound may = sound
-  hive_kept h (PutCursor fate) sound may = cursor_kept fate h may.0 sound may.1
+  hive_kept h (PutCursor fate) sound may = cursor_kept fate h may.0 sound (all_done h may.0 may.1 may.2)
 
 -- the catalog grows
 round_more : (f : Fold) (cs : Catalog) (x : Stored) (h : HiveNow) (o : Option Round) → HasRound f cs h.cursor h.states h.held o → HasRound f (cs ++ x ∷ []) h.cursor h.states h.held o

@@ -1,5 +1,5 @@
 -- Whatever may happen to a sound feed keeps it sound.
-use Rattle.std.proofs.Common.{◌≡◌, ℕ, zero, suc, List, [], ◌∷◌, ◌++◌, Some, refl, sym, ◌∙◌, ap, subst, arith}
+use Rattle.std.proofs.Common.{◌≡◌, ℕ, zero, suc, List, [], ◌∷◌, ◌++◌, map, None, Some, refl, sym, ◌∙◌, ap, subst, arith}
 use Rattle.std.proofs.lemmas.List.{append_assoc, append-nil}
 use Rattle.blob_store.specs.Events.{Fate, Done, FailedOld, FailedNew, NoMemory}
 use Rattle.pkg_meta.specs.Catalog.{Catalog}
@@ -7,12 +7,13 @@ use Rattle.pkg_meta.specs.Lawful.{IsLawful}
 use Rattle.pkg_meta.specs.declared.commit.Stored.{Stored}
 use Rattle.fold_core.specs.Docs.{owner}
 use Rattle.fold_core.specs.Folds.{Fold}
-use Rattle.feed_laws.specs.Happenings.{PutObject, PutPage, PutIndex, OnHive, PutCursor, Happening, Catalogs, Hives, Reads, Crash, Restart, Reply}
-use Rattle.feed_laws.specs.Soundness.{AreSound, CursorsRise, HaveLaws, IsFromScratch, IsSettledNow, Sound, fold_at}
-use Rattle.feed_laws.specs.Steps.{May, MayAt, Run, commits_in, happens, hive_after, hive_at, hives_after, without_rounds}
+use Rattle.feed_laws.specs.Happenings.{PutObject, PutPage, PutIndex, OnHive, PutCursor, Happening, Catalogs, Hives, Reads, Crash, Restart}
+use Rattle.feed_laws.specs.Claims.{CursorsRise, IsFromScratch, IsSettledNow, commits_in, fold_at, hive_at}
+use Rattle.feed_laws.specs.Soundness.{AreSound, HaveLaws, Sound}
+use Rattle.feed_laws.specs.Steps.{May, MayAt, Run, happens, hive_after, hives_after}
 use Rattle.feed_laws.specs.Worlds.{HiveNow, World}
 use Rattle.feed_laws.proofs.CatalogKept.{index_kept, object_kept, page_put_kept}
-use Rattle.feed_laws.proofs.HiveKept.{cursor_settles, down_kept, hive_kept, never_falls, page_kept}
+use Rattle.feed_laws.proofs.HiveKept.{all_done, cursor_settles, down_kept, hive_kept, never_falls, page_kept}
 use Rattle.catalog_doc.specs.Names.{index_name}
 use Rattle.catalog_doc.specs.Spelled.{SpellsCatalog}
 use Rattle.blob_store.specs.Area.{with_blob}
@@ -28,6 +29,9 @@ all_more cs c [] [] sound = tt
 all_more cs c [] (h ∷ hs) sound = absurd sound
 all_more cs c (f ∷ fs) [] sound = absurd sound
 all_more cs c (f ∷ fs) (h ∷ hs) sound = (page_kept f cs c h sound.0, all_more cs c fs hs sound.1)
+
+abbrev without_rounds : List HiveNow → List HiveNow
+without_rounds hs = map (λ (h : HiveNow). record h { round = None }) hs
 
 all_down : (cs : Catalog) (fs : List Fold) (hs : List HiveNow) → AreSound cs fs hs → AreSound cs fs (without_rounds hs)
 all_down cs [] [] sound = tt
@@ -72,18 +76,14 @@ feed_kept fs laws w (Catalogs (PutIndex name bytes FailedOld)) sound may = sound
 feed_kept fs laws w (Catalogs (PutIndex name bytes FailedNew)) sound may = on_index fs w name bytes FailedNew sound may
 feed_kept fs laws w (Catalogs (PutIndex name bytes NoMemory)) sound may = sound
 feed_kept fs laws w (Hives k on) sound may = record { lawful = sound.lawful; spells = sound.spells; hives = on_kept w.commits k on fs w.hives sound.lawful.lawful laws sound.hives may.1 }
-feed_kept fs laws w (Reads place) sound may = sound
+feed_kept fs laws w (Reads place fate) sound may = sound
 feed_kept fs laws w Crash sound may = record { lawful = sound.lawful; spells = sound.spells; hives = all_down w.commits fs w.hives sound.hives }
 feed_kept fs laws w Restart sound may = record { lawful = sound.lawful; spells = sound.spells; hives = sound.hives }
 
 -- over steps in order
-pub run_kept : (fs : List Fold) → HaveLaws fs → (w : World) (es : List Happening) (replies : List Reply) (last : World) → Sound fs w → Run fs w es replies last → Sound fs last
-run_kept fs laws w [] [] last sound run = subst (Sound fs) (sym run) sound
-run_kept fs laws w [] (reply ∷ replies) last sound run = absurd run
-run_kept fs laws w (e ∷ es) [] last sound run = absurd run
-run_kept fs laws w (e ∷ es) (reply ∷ replies) last sound run =
-    let next = run.0 in let step = run.1 in
-    run_kept fs laws next es replies last (subst (Sound fs) (sym step.leads) (feed_kept fs laws w e sound step.may)) run.2
+pub run_kept : (fs : List Fold) → HaveLaws fs → (w : World) (es : List Happening) (last : World) → Sound fs w → Run fs w es last → Sound fs last
+run_kept fs laws w [] last sound run = subst (Sound fs) (sym run) sound
+run_kept fs laws w (e ∷ es) last sound run = run_kept fs laws (happens e w) es last (feed_kept fs laws w e sound run.0) run.1
 
 -- the catalog grows by the page puts that took effect
 one_grows : (e : Happening) (w : World) → (happens e w).commits ≡ w.commits ++ commits_in (e ∷ [])
@@ -100,7 +100,7 @@ one_grows (Catalogs (PutIndex name bytes FailedOld)) w = sym (append-nil w.commi
 one_grows (Catalogs (PutIndex name bytes FailedNew)) w = sym (append-nil w.commits)
 one_grows (Catalogs (PutIndex name bytes NoMemory)) w = sym (append-nil w.commits)
 one_grows (Hives k on) w = sym (append-nil w.commits)
-one_grows (Reads place) w = sym (append-nil w.commits)
+one_grows (Reads place fate) w = sym (append-nil w.commits)
 one_grows Crash w = sym (append-nil w.commits)
 one_grows Restart w = sym (append-nil w.commits)
 
@@ -112,18 +112,15 @@ commits_split (Catalogs (PutPage c name bytes FailedNew)) es = refl
 commits_split (Catalogs (PutPage c name bytes NoMemory)) es = refl
 commits_split (Catalogs (PutIndex name bytes fate)) es = refl
 commits_split (Hives k on) es = refl
-commits_split (Reads place) es = refl
+commits_split (Reads place fate) es = refl
 commits_split Crash es = refl
 commits_split Restart es = refl
 
-pub run_grows : (fs : List Fold) (w : World) (es : List Happening) (replies : List Reply) (last : World) → Run fs w es replies last → last.commits ≡ w.commits ++ commits_in es
-run_grows fs w [] [] last run = ap (λ (v : World). v.commits) run ∙ sym (append-nil w.commits)
-run_grows fs w [] (reply ∷ replies) last run = absurd run
-run_grows fs w (e ∷ es) [] last run = absurd run
-run_grows fs w (e ∷ es) (reply ∷ replies) last run =
-    let next = run.0 in let step = run.1 in
-    run_grows fs next es replies last run.2
-    ∙ ap (λ (cs : Catalog). cs ++ commits_in es) (ap (λ (v : World). v.commits) step.leads ∙ one_grows e w)
+pub run_grows : (fs : List Fold) (w : World) (es : List Happening) (last : World) → Run fs w es last → last.commits ≡ w.commits ++ commits_in es
+run_grows fs w [] last run = ap (λ (v : World). v.commits) run ∙ sym (append-nil w.commits)
+run_grows fs w (e ∷ es) last run =
+    run_grows fs (happens e w) es last run.1
+    ∙ ap (λ (cs : Catalog). cs ++ commits_in es) (one_grows e w)
     ∙ append_assoc w.commits (commits_in (e ∷ [])) (commits_in es)
     ∙ ap (λ (cs : Catalog). w.commits ++ cs) (sym (commits_split e es))
 
@@ -164,18 +161,14 @@ one_rises fs w (Catalogs (PutIndex name bytes FailedOld)) sound = same_cursors w
 one_rises fs w (Catalogs (PutIndex name bytes FailedNew)) sound = same_cursors w.hives
 one_rises fs w (Catalogs (PutIndex name bytes NoMemory)) sound = same_cursors w.hives
 one_rises fs w (Hives k on) sound = on_rises w.commits k on fs w.hives sound.hives
-one_rises fs w (Reads place) sound = same_cursors w.hives
+one_rises fs w (Reads place fate) sound = same_cursors w.hives
 one_rises fs w Crash sound = down_cursors w.hives
 one_rises fs w Restart sound = same_cursors w.hives
 
-pub run_rises : (fs : List Fold) → HaveLaws fs → (w : World) (es : List Happening) (replies : List Reply) (last : World) → Sound fs w → Run fs w es replies last → CursorsRise w.hives last.hives
-run_rises fs laws w [] [] last sound run = subst (λ (v : World). CursorsRise w.hives v.hives) (sym run) (same_cursors w.hives)
-run_rises fs laws w [] (reply ∷ replies) last sound run = absurd run
-run_rises fs laws w (e ∷ es) [] last sound run = absurd run
-run_rises fs laws w (e ∷ es) (reply ∷ replies) last sound run =
-    let next = run.0 in let step = run.1 in
-    let there : Sound fs next = subst (Sound fs) (sym step.leads) (feed_kept fs laws w e sound step.may) in
-    rise_on w.hives next.hives last.hives (subst (λ (v : World). CursorsRise w.hives v.hives) (sym step.leads) (one_rises fs w e sound)) (run_rises fs laws next es replies last there run.2)
+pub run_rises : (fs : List Fold) → HaveLaws fs → (w : World) (es : List Happening) (last : World) → Sound fs w → Run fs w es last → CursorsRise w.hives last.hives
+run_rises fs laws w [] last sound run = subst (λ (v : World). CursorsRise w.hives v.hives) (sym run) (same_cursors w.hives)
+run_rises fs laws w (e ∷ es) last sound run =
+    rise_on w.hives (happens e w).hives last.hives (one_rises fs w e sound) (run_rises fs laws (happens e w) es last (feed_kept fs laws w e sound run.0) run.1)
 
 -- what a read of a document finds
 pub found_fresh : (cs : Catalog) (k : ℕ) (fs : List Fold) (hs : List HiveNow) → AreSound cs fs hs → (f : Fold) (h : HiveNow) → fold_at k fs ≡ Some f → hive_at k hs ≡ Some h
@@ -195,7 +188,7 @@ put_settles cs k [] hs lawful laws sound may f h rule there = absurd may
 put_settles cs k (g ∷ fs) [] lawful laws sound may f h rule there = absurd may
 put_settles cs zero (g ∷ fs) (x ∷ hs) lawful laws sound may f h rule there =
     let same : g ≡ f = cc in let is : hive_after cs (PutCursor Done) x ≡ h = cc in
-    let found : IsSettledNow g cs may.0.target x = cursor_settles g cs (laws.0 cs lawful) x may.0 sound.0 may.1 in
+    let found : IsSettledNow g cs may.0.target x = cursor_settles g cs (laws.0 cs lawful) x may.0 sound.0 (all_done x may.0 may.1 may.2) in
     subst (λ (r : Fold). IsSettledNow r cs h.cursor h) same
     (subst (λ (y : HiveNow). IsSettledNow g cs y.cursor y) is (rw (may.1.stands) (record { ids = found.ids; known = found.known })))
 put_settles cs (suc k) (g ∷ fs) (x ∷ hs) lawful laws sound may f h rule there = put_settles cs k fs hs lawful laws.1 sound.1 may f h rule there

@@ -1,10 +1,13 @@
 pub mod Begun
+pub mod Called
 pub mod CatalogKept
 pub mod Changed
 pub mod Committed
+pub mod HiveCalled
 pub mod HiveKept
 pub mod Kept
 pub mod Lists
 pub mod Moves
 pub mod Passed
 pub mod Restarted
+pub mod Stepped

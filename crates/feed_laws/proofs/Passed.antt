@@ -8,10 +8,11 @@ use Rattle.hive_laws.specs.FoldLaws.{FoldLaws}
 use Rattle.hive_laws.specs.Plans.{IsPassPlan, PassPlan, pass_steps}
 use Rattle.hive_laws.specs.Steps as pass
 use Rattle.hive_laws.proofs.OnePass.{pass_allowed, pass_cleans}
-use Rattle.feed_laws.specs.Courses.{all_fine, hive_step, hive_steps, pass_course}
-use Rattle.feed_laws.specs.Happenings.{Hives, OnHive, Finish, Fine}
-use Rattle.feed_laws.specs.Soundness.{AreSound, HaveLaws, IsSoundNow, fold_at}
-use Rattle.feed_laws.specs.Steps.{IsClaimed, May, MayAt, MayOnHive, Run, hive_reply, hive_after, hive_at, hives_after}
+use Rattle.feed_laws.specs.Claims.{fold_at, hive_at}
+use Rattle.feed_laws.specs.Courses.{hive_step, hive_steps, pass_course}
+use Rattle.feed_laws.specs.Happenings.{Hives, OnHive, Finish}
+use Rattle.feed_laws.specs.Soundness.{AreSound, HaveLaws, IsSoundNow}
+use Rattle.feed_laws.specs.Steps.{IsClaimed, May, MayAt, MayOnHive, Run, hive_after, hives_after}
 use Rattle.feed_laws.specs.Worlds.{HiveNow, Round, World}
 use Rattle.feed_laws.proofs.HiveKept.{round_of, with_look_here}
 use Rattle.feed_laws.proofs.Moves.{claimed_item}
@@ -55,8 +56,8 @@ law_at cs lawful (suc k) (g ∷ fs) f laws rule = law_at cs lawful k fs f laws.1
 module _ (fs : List Fold) (w : World) (up : w.up ≡ true) (k : ℕ) (f : Fold) (rule : fold_at k fs ≡ Some f) (key : List ℕ) (r : Round) where
   may_step : (h : HiveNow) (step : pass.Step) → IsClaimed h key r → pass.IsAllowed f w.commits key r.target step (kept_of key h) → MayOnHive f w.commits h (hive_step key step)
   may_step h (pass.PutState s) claimed allowed = (r, claimed, allowed.0, allowed.1)
-  may_step h (pass.PutDoc name bytes) claimed allowed = (r, allowed.0, claimed, record { stored = allowed.2; at = allowed.1 }, allowed.3)
-  may_step h (pass.RemoveDoc name) claimed allowed = (r, allowed.0, claimed, record { stored = allowed.2; at = allowed.1 }, allowed.3)
+  may_step h (pass.PutDoc name bytes) claimed allowed = (r, allowed.0, claimed, allowed.2, allowed.1, allowed.3)
+  may_step h (pass.RemoveDoc name) claimed allowed = (r, allowed.0, claimed, allowed.2, allowed.1, allowed.3)
 
   still_claimed : (h : HiveNow) (step : pass.Step) → IsClaimed h key r → IsClaimed (hive_after w.commits (hive_step key step) h) key r
   still_claimed h (pass.PutState s) claimed = record { stands = claimed.stands; claimed = claimed.claimed }
@@ -68,16 +69,11 @@ module _ (fs : List Fold) (w : World) (up : w.up ≡ true) (k : ℕ) (f : Fold) 
   kept_after h (pass.PutDoc name bytes) = refl
   kept_after h (pass.RemoveDoc name) = refl
 
-  told_fine : (step : pass.Step) (h : Option HiveNow) → Fine ≡ hive_reply (hive_step key step) h
-  told_fine (pass.PutState s) h = refl
-  told_fine (pass.PutDoc name bytes) h = refl
-  told_fine (pass.RemoveDoc name) h = refl
-
   -- the hives after some steps, of which one has taken them
   record Taken (steps : List pass.Step) (hs : List HiveNow) (h : HiveNow) : Type 0 where
     hives : List HiveNow
     hive : HiveNow
-    runs : Run fs (with_hives hs w) (hive_steps k key steps) (all_fine (hive_steps k key steps)) (with_hives hives w)
+    runs : Run fs (with_hives hs w) (hive_steps k key steps) (with_hives hives w)
     there : hive_at k hives ≡ Some hive
     claimed : IsClaimed hive key r
     kept : kept_of key hive ≡ pass.after_steps steps (kept_of key h)
@@ -93,7 +89,7 @@ module _ (fs : List Fold) (w : World) (up : w.up ≡ true) (k : ℕ) (f : Fold) 
       record {
         hives = behind.hives;
         hive = behind.hive;
-        runs = (_, record { may = (up, may_at w.commits k on fs hs f h rule there (may_step h step claimed allowed.0)); told = told_fine step (hive_at k hs); leads = refl }, behind.runs);
+        runs = ((up, may_at w.commits k on fs hs f h rule there (may_step h step claimed allowed.0)), behind.runs);
         there = behind.there;
         claimed = behind.claimed;
         kept = behind.kept ∙ ap (pass.after_steps steps) (sym (kept_after h step));
@@ -112,5 +108,5 @@ module _ (fs : List Fold) (w : World) (up : w.up ≡ true) (k : ℕ) (f : Fold) 
     clean = subst (λ (x : pass.KeptOfId). Clean f w.commits key r.target x.stored x.held) (sym whole.kept)
         (pass_cleans f w.commits laws h.cursor r.target key (kept_of key h) plan (sound.hive.ids key) item is_plan)
 
-    pub pass_runs : (last : World) × Run fs w (pass_course k key plan) (all_fine (pass_course k key plan)) last × May fs last (Hives k (Finish key))
+    pub pass_runs : (last : World) × Run fs w (pass_course k key plan) last × May fs last (Hives k (Finish key))
     pass_runs = (with_hives whole.hives w, whole.runs, (up, may_at w.commits k (Finish key) fs whole.hives f whole.hive rule whole.there (r, whole.claimed, clean)))

@@ -6,9 +6,10 @@ use Rattle.catalog_doc.specs.Catalogs.{IsCatalog}
 use Rattle.catalog_doc.specs.Spelled.{SpellsCatalog, SpellsOnly}
 use Rattle.area_laws.proofs.OneArea.{spells_one}
 use Rattle.fold_core.specs.Folds.{Fold}
-use Rattle.feed_laws.specs.Happenings.{Happening, Catalogs, Hives, Reads, Crash, Restart, PutObject, PutPage, PutIndex, Reply}
+use Rattle.feed_laws.specs.Happenings.{Happening, Catalogs, Hives, Reads, Crash, Restart, PutObject, PutPage, PutIndex}
+use Rattle.feed_laws.specs.Claims.{commits_in}
 use Rattle.feed_laws.specs.Soundness.{HaveLaws, Sound}
-use Rattle.feed_laws.specs.Steps.{Run, commits_in, happens}
+use Rattle.feed_laws.specs.Steps.{Run, happens}
 use Rattle.feed_laws.specs.Worlds.{World}
 use Rattle.feed_laws.proofs.Kept.{run_grows, run_kept}
 
@@ -27,22 +28,20 @@ one_base (Catalogs (PutIndex name bytes FailedOld)) w = refl
 one_base (Catalogs (PutIndex name bytes FailedNew)) w = refl
 one_base (Catalogs (PutIndex name bytes NoMemory)) w = refl
 one_base (Hives k on) w = refl
-one_base (Reads place) w = refl
+one_base (Reads place fate) w = refl
 one_base Crash w = refl
 one_base Restart w = refl
 
-run_base : (fs : List Fold) (w : World) (es : List Happening) (replies : List Reply) (last : World) → Run fs w es replies last → last.base ≡ w.base
-run_base fs w [] [] last run = ap (λ (v : World). v.base) run
-run_base fs w [] (reply ∷ replies) last run = absurd run
-run_base fs w (e ∷ es) [] last run = absurd run
-run_base fs w (e ∷ es) (reply ∷ replies) last run = run_base fs run.0 es replies last run.2 ∙ ap (λ (v : World). v.base) run.1.leads ∙ one_base e w
+run_base : (fs : List Fold) (w : World) (es : List Happening) (last : World) → Run fs w es last → last.base ≡ w.base
+run_base fs w [] last run = ap (λ (v : World). v.base) run
+run_base fs w (e ∷ es) last run = run_base fs (happens e w) es last run.1 ∙ one_base e w
 
-pub finds_commits : (fs : List Fold) → HaveLaws fs → (w : World) (es : List Happening) (replies : List Reply) (last : World) → Sound fs w → Run fs w es replies last
+pub finds_commits : (fs : List Fold) → HaveLaws fs → (w : World) (es : List Happening) (last : World) → Sound fs w → Run fs w es last
     → SpellsCatalog last.area w.base (w.commits ++ commits_in es) × SpellsOnly last.area w.base (w.commits ++ commits_in es)
-finds_commits fs laws w es replies last sound run =
-    let there : Sound fs last = run_kept fs laws w es replies last sound run in
-    let base : last.base ≡ w.base = run_base fs w es replies last run in
-    let grown : last.commits ≡ w.commits ++ commits_in es = run_grows fs w es replies last run in
+finds_commits fs laws w es last sound run =
+    let there : Sound fs last = run_kept fs laws w es last sound run in
+    let base : last.base ≡ w.base = run_base fs w es last run in
+    let grown : last.commits ≡ w.commits ++ commits_in es = run_grows fs w es last run in
     let spells : SpellsCatalog last.area w.base (w.commits ++ commits_in es) =
     subst (λ (b : List ℕ). SpellsCatalog last.area b (w.commits ++ commits_in es)) base (subst (λ (cs : Catalog). SpellsCatalog last.area last.base cs) grown there.spells) in
     let lawful : IsCatalog (w.commits ++ commits_in es) = subst IsCatalog grown there.lawful in

@@ -13,7 +13,7 @@ use Rattle.catalog_doc.specs.Events.{next_page}
 use Rattle.catalog_doc.specs.Names.{index_name, page_name}
 use Rattle.hive_laws.specs.Plans.{PassPlan, pass_steps}
 use Rattle.hive_laws.specs.Steps as pass
-use Rattle.feed_laws.specs.Happenings.{Happening, Catalogs, Hives, OnHive, PutObject, PutPage, PutIndex, PutState, PutDoc, DeleteDoc, Reply, Fine}
+use Rattle.feed_laws.specs.Happenings.{Happening, Catalogs, Hives, OnHive, PutObject, PutPage, PutIndex, PutState, PutDoc, DeleteDoc}
 use Rattle.feed_laws.specs.Worlds.{World}
 
 -- the puts of leaves and staged blobs among these calls
@@ -32,13 +32,9 @@ document_puts base cs c =
 abbrev pub commit_steps : List ℕ → Catalog → Stored → List Happening
 commit_steps base cs c = object_puts (place_puts base c.commit.number c.commit.stamp 0 c.commit.items c.staged) ++ document_puts base cs c
 
--- as many replies that all went well
-abbrev pub all_fine : List Happening → List Reply
-all_fine es = map (λ (e : Happening). Fine) es
-
 -- the feed with a further commit
 abbrev pub after_commit : World → Stored → World
-after_commit w c = record { base = w.base; commits = w.commits ++ c ∷ []; area = after_calls (commit_puts w.base w.commits c) w.area; hives = w.hives; up = w.up }
+after_commit w c = record w { commits = w.commits ++ c ∷ []; area = after_calls (commit_puts w.base w.commits c) w.area }
 
 -- a step of a pass over an id, as it happens to a hive
 abbrev pub hive_step : List ℕ → pass.Step → OnHive

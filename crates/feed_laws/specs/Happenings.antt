@@ -1,5 +1,5 @@
 -- What may happen to a feed, one store call or one move of a round at a time.
-use Rattle.std.specs.Prelude.{ℕ, List, Bool, true, false, Option}
+use Rattle.std.specs.Prelude.{ℕ, List, Bool, true, false}
 use Rattle.blob_store.specs.Events.{Fate, Done, FailedOld, FailedNew, NoMemory}
 use Rattle.pkg_meta.specs.declared.commit.Stored.{Stored}
 use Rattle.pkg_meta.specs.declared.state.StateDoc.{StateDoc}
@@ -33,7 +33,7 @@ pub data Place : Type 0 where
 pub data Happening : Type 0 where
   Catalogs : OnCatalog → Happening
   Hives : (hive : ℕ) → OnHive → Happening
-  Reads : Place → Happening
+  Reads : Place → Fate → Happening
   Crash : Happening
   Restart : Happening
 
@@ -43,13 +43,3 @@ took Done = true
 took FailedOld = false
 took FailedNew = true
 took NoMemory = false
-
--- how it is replied to: done, or failed, or out of memory; with what was read; with the id that was claimed, if one waited
-pub data Reply : Type 0 where
-  Fine : Reply
-  Fault : Reply
-  Memory : Reply
-  Found : Option (List ℕ) → Reply
-  FoundState : Option StateDoc → Reply
-  FoundCursor : ℕ → Reply
-  Claimed : Option (List ℕ) → Reply

@@ -1,6 +1,9 @@
 pub mod Begins
+pub mod Calls
+pub mod Claims
 pub mod Courses
 pub mod Happenings
+pub mod Replies
 pub mod Rounds
 pub mod Soundness
 pub mod Steps

@@ -41,15 +41,12 @@ places key r = times key r.waiting + (times key r.claimed + (times key r.finishe
 abbrev pub IsExact : Catalog → ℕ → List ℕ → Round → Type 0
 IsExact cs c key r = (c < touched_by cs key r.target → places key r ≡ 1) × (touched_by cs key r.target ≤ c → places key r ≡ 0)
 
--- the cursor stands at the target, and each id is done
-abbrev pub IsOver : ℕ → List ℕ → Round → Type 0
-IsOver c key r = (c ≡ r.target) × (places key r ≡ times key r.finished)
-
 -- what a standing round says of an id
 pub record IsRoundId (f : Fold) (cs : Catalog) (c : ℕ) (key : List ℕ) (r : Round) (stored : Option StateDoc) (held : Look (List ℕ)) : Type 0 where
   pub at_most : IsAtMost r.target stored
   pub once : places key r ≤ 1
-  pub which : ((c < r.target) × IsExact cs c key r) ⊎ IsOver c key r
+  -- while the cursor is below the target the ids are exactly those; once it stands there each is done
+  pub which : ((c < r.target) × IsExact cs c key r) ⊎ ((c ≡ r.target) × (places key r ≡ times key r.finished))
   pub finished : 0 < times key r.finished → Clean f cs key r.target stored held
 
 -- a standing round: its target is that of a prefix, and so it is with each id

@@ -1,11 +1,11 @@
 -- Sound feeds.
-use Rattle.std.specs.Prelude.{◌≡◌, ◌≤◌, ℕ, zero, suc, List, [], ◌∷◌, length, Option, None, Some, IsSome, ⊤}
+use Rattle.std.specs.Prelude.{ℕ, List, [], ◌∷◌, IsSome, ⊤}
 use Rattle.pkg_meta.specs.Catalog.{Catalog}
 use Rattle.pkg_meta.specs.Lawful.{IsLawful}
 use Rattle.catalog_doc.specs.Catalogs.{IsCatalog}
 use Rattle.catalog_doc.specs.Spelled.{SpellsCatalog}
 use Rattle.fold_core.specs.Docs.{owner}
-use Rattle.fold_core.specs.Folds.{Fold, Settled, made_at}
+use Rattle.fold_core.specs.Folds.{Fold}
 use Rattle.fold_core.specs.Sound.{IsSoundHive}
 use Rattle.hive_laws.specs.FoldLaws.{FoldLaws}
 use Rattle.feed_laws.specs.Rounds.{HasRound}
@@ -34,25 +34,3 @@ pub record Sound (fs : List Fold) (w : World) : Type 0 where
   pub lawful : IsCatalog w.commits
   pub spells : SpellsCatalog w.area w.base w.commits
   pub hives : AreSound w.commits fs w.hives
-
--- a hive is exactly what the first k commits make of it
-pub record IsSettledNow (f : Fold) (cs : Catalog) (k : ℕ) (h : HiveNow) : Type 0 where
-  pub ids : Settled f cs k h.states h.held
-  pub known : (name : List ℕ) → IsSome (h.held name) → IsSome (owner name)
-
--- the rule of the hive with this number
-abbrev pub fold_at : ℕ → List Fold → Option Fold
-fold_at k [] = None
-fold_at zero (f ∷ fs) = Some f
-fold_at (suc k) (f ∷ fs) = fold_at k fs
-
--- no cursor falls
-abbrev pub CursorsRise : List HiveNow → List HiveNow → Type 0
-CursorsRise [] [] = ⊤
-CursorsRise (h ∷ hs) (g ∷ gs) = (h.cursor ≤ g.cursor) × CursorsRise hs gs
-CursorsRise [] (g ∷ gs) = ⊥
-CursorsRise (h ∷ hs) [] = ⊥
-
--- what is found under a name is what a prefix that reaches the cursor has there
-abbrev pub IsFromScratch : Fold → Catalog → ℕ → List ℕ → List ℕ → Option (List ℕ) → Type 0
-IsFromScratch f cs c key name found = (j : ℕ) × (c ≤ j) × (j ≤ length cs) × (found ≡ made_at f cs key j name)

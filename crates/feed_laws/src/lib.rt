@@ -9,6 +9,6 @@
 mod laws;
 
 pub use laws::{
-    commits_are_steps, feeds_begin_sound, feeds_grow, feeds_stay_sound, passes_are_steps,
-    reads_are_fresh, restarts_find_commits, rounds_settle,
+    calls_are_steps, calls_meet_conditions, commits_are_steps, feeds_begin_sound, feeds_grow,
+    feeds_stay_sound, passes_are_steps, reads_are_fresh, restarts_find_commits, rounds_settle,
 };

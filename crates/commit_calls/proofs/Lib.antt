@@ -1,0 +1,4 @@
+pub mod Committed
+pub mod Opened
+pub mod Stepped
+pub mod Still
