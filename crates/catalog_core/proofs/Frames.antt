@@ -62,6 +62,7 @@ stays_gets o mid n a b c P Q stays quiet gets kept base settled = record {
   };
   base = base ∙ stays.base;
   settled = λ is. let at = stays.settled is in (settled ∙ at.0, gets.area ∙ at.1);
+  kept = λ is. kept ∙ stays.kept is;
   open_for = λ cs is.
       let at = stays.open_for cs is in
       let known = known_store mid b cs at.open_for in
@@ -79,6 +80,7 @@ stays_as o a P sure quiet = record {
   mends = record { counts = counts_none a.faults P quiet; area = inl refl };
   base = refl;
   settled = λ is. (is, refl);
+  kept = λ is. refl;
   open_for = λ cs is.
       let known = known_store o a cs is in
       record { open_for = is; moments = started a known.0 (λ left. SpellsCatalog left o.base cs) sure known.1 known.2 };
@@ -123,6 +125,7 @@ stays_settled o n a b P unsettled mends spelled index took base settled = record
   mends = mends;
   base = base;
   settled = λ is. absurd (differs unsettled is);
+  kept = λ is. absurd (differs unsettled is);
   open_for = λ cs is.
       let part = known_of o a unsettled cs is in
       let store = store_known o a unsettled cs is in
@@ -145,6 +148,7 @@ stays_unsettled o n a b P unsettled mends spelled kept base settled = record {
   mends = mends;
   base = base;
   settled = λ is. absurd (differs unsettled is);
+  kept = λ is. absurd (differs unsettled is);
   open_for = λ cs is.
       let part = known_of o a unsettled cs is in
       let store = store_known o a unsettled cs is in
@@ -162,4 +166,4 @@ stays_unsettled o n a b P unsettled mends spelled kept base settled = record {
 
 -- the same, where its failure is told otherwise
 pub stays_iff : {B : Type 0} (o n : Opened B) (a b : Seen) (P Q : Type 0) → StaysOpen o n a b P → (P → Q) → (Q → P) → StaysOpen o n a b Q
-stays_iff o n a b P Q stays to from = record { mends = mends_as a b P Q to from stays.mends; base = stays.base; settled = stays.settled; open_for = stays.open_for }
+stays_iff o n a b P Q stays to from = record { mends = mends_as a b P Q to from stays.mends; base = stays.base; settled = stays.settled; kept = stays.kept; open_for = stays.open_for }

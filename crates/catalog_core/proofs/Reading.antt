@@ -4,8 +4,8 @@ use Rattle.std.specs.Prelude.{Contains, slice_get, if◌then◌else◌}
 use Rattle.std.specs.FinMap.{get}
 use Rattle.std.specs.Option.{is_some}
 use Rattle.blob_store.specs.Area.{Area}
-use Rattle.blob_store.specs.Events.{Get}
-use Rattle.blob_store.specs.Seen.{Seen}
+use Rattle.blob_store.specs.Events.{Act, Get}
+use Rattle.blob_store.specs.Seen.{IsSure, Seen}
 use Rattle.pkg_meta.specs.Catalog.{Catalog}
 use Rattle.pkg_meta.specs.declared.commit.Commit.{Commit}
 use Rattle.pkg_meta.specs.declared.commit.Staged.{Staged}
@@ -20,9 +20,10 @@ use Rattle.catalog_doc.specs.declared.row.Row.{Row}
 use Rattle.catalog_laws.proofs.ItemValues.{item_values}
 use Rattle.catalog_laws.proofs.RowValues.{lengths}
 use Rattle.catalog_opening.specs.Errors.{IfDamagedRead}
+use Rattle.catalog_opening.specs.Plans.{RunsReading}
 use Rattle.catalog_opening.specs.declared.error.ReadErr.{ReadErr}
 use Rattle.catalog_opening.specs.declared.error.ReadErr.TheVariants.{Damaged, Fault, Memory}
-use Rattle.catalog_opening.proofs.Halting.{AreGets}
+use Rattle.catalog_opening.proofs.Halting.{AreGets, halts_unstarted, reading_told}
 use Rattle.catalog_items.specs.ByRows.{has_doc}
 use Rattle.catalog_items.specs.Leaves.{AreItemValues, commits_with, HoldsLeaf, HoldsLeaves, leaf_gets, row_with}
 use Rattle.catalog_items.specs.Reads.{IsAbsent, IsRead}
@@ -148,3 +149,15 @@ module _ {B : Type 0} (o : Opened B) (s : Seen) (cs : Catalog) (ready : IsReady 
       subst (λ (l : List Commit). IsRead l r) (ap (λ (l : List Row). commits_with [] l (all_items cs)) (sym own) ∙ all_commits cs ready.open_for.lawful)
       (exact store.0 (all_items cs) store.1 (all_values cs ready.open_for.lawful)
       (below (λ (b : List ℕ) (l : List Row). HoldsLeaves store.0 b l (all_items cs)) (sym same) own held))
+
+-- a read of a settled catalog, said of the catalog as it was
+pub settled_runs : {A B : Type 0} (seen : B → Seen) (o mid : Opened B) (plan : Opened B → List Act) (b : Seen) (r : Result A ReadErr) → mid ≡ o
+    → RunsReading (plan mid) (seen mid.area) b r → RunsReading (plan o) (seen o.area) b r
+settled_runs {A} seen o mid plan b r same ran = subst (λ (x : Opened _). RunsReading (plan x) (seen x.area) b r) same ran
+
+-- one that called nothing
+pub settled_quiet : {A B : Type 0} (seen : B → Seen) (o mid : Opened B) (plan : List Act) (r : Result A ReadErr) → mid ≡ o → IsSure (seen mid.area) → r ≡ Err Memory
+    → RunsReading plan (seen o.area) (seen mid.area) r
+settled_quiet {A} seen o mid plan r same sure told =
+    subst (λ (x : Opened _). RunsReading plan (seen x.area) (seen mid.area) r) same
+    (reading_told plan (seen mid.area) (seen mid.area) r Memory told (halts_unstarted plan (seen mid.area) sure))

@@ -17,11 +17,13 @@ pub record StaysOpenFor {B : Type 0} (old new : Opened B) (before after : Seen) 
   pub moments : KeepsSpelling before after old.base cs
 
 -- A call that changes no catalog: at most an index is put, the count of faults rises exactly where a call failed, the base
--- address stays, and the catalog stays open for each one that it was open for. Where it is settled, it stays so, and nothing is put.
+-- address stays, and the catalog stays open for each one that it was open for. Where it is settled, it stays so, nothing is put,
+-- and what is kept stays.
 pub record StaysOpen {B : Type 0} (old new : Opened B) (before after : Seen) (failed : Type 0) : Type 0 where
   pub mends : Mends before after failed
   pub base : new.base ≡ old.base
   pub settled : old.settled ≡ true → (new.settled ≡ true) × (after.held ≡ before.held)
+  pub kept : old.settled ≡ true → new.kept ≡ old.kept
   pub open_for : (cs : Catalog) → IsOpenFor old before cs → StaysOpenFor old new before after cs
 
 -- These calls settle a catalog: none where it is settled; else the last page known and the page behind it are got, and the

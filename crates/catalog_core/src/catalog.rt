@@ -1,14 +1,16 @@
 // The catalog of a feed, open, and what is read of it.
-ghost use Rattle.std.specs.Prelude.{◌≡◌, ◌⊎◌, None, Some, true, IfErr, IfOk, IfSome, IsErrOf, OnErr, OnOk, Option, length, slice_get, List};
+ghost use Rattle.std.specs.Prelude.{◌≡◌, ◌⊎◌, ◌∷◌, [], None, Some, true, IfErr, IfOk, IfSome, IsErrOf, OnErr, OnOk, Option, length, slice_get, List};
 ghost use Rattle.std.specs.FinMap.{get};
 ghost use Rattle.std.specs.List.{Contains};
 ghost use Rattle.blob_store.specs.Area.{Area};
+ghost use Rattle.blob_store.specs.Events.{Get};
 ghost use Rattle.pkg_meta.specs.declared.commit.Staged.{Staged};
 ghost use Rattle.pkg_meta.specs.declared.commit.Stored.{Stored};
 ghost use Rattle.catalog_doc.specs.CatDocs.{all_rows, doc_at};
 ghost use Rattle.catalog_doc.specs.Catalogs.{IsCatalog};
 ghost use Rattle.catalog_doc.specs.Names.{staged_name};
 ghost use Rattle.catalog_opening.specs.Errors.{IfDamagedRead};
+ghost use Rattle.catalog_opening.specs.Plans.{RunsReading};
 ghost use Rattle.catalog_opening.specs.Settlings.{more_rows, with_more};
 ghost use Rattle.catalog_rows.specs.Kept.{IsKeptOf};
 ghost use Rattle.catalog_items.specs.ByRows.{rows_above};
@@ -100,6 +102,7 @@ impl<B: Blobs> Catalog<B> {
         ensures damaged { (m : Area) → (B.seen self.old.area).held ≡ Some m → IfDamagedRead result (IsUnsettled m self.old) }
         ensures runs { (cs : List Stored) → IsOpenFor self.old (B.seen self.old.area) cs
             → RunsSettling self.old cs (B.seen self.old.area) (B.seen self.new.area) result }
+        ensures same { self.old.settled ≡ true → (self.new ≡ self.old) × IfErr result (λ e. ⊥) }
     {
         if self.settled {
             return Ok(());
@@ -113,6 +116,8 @@ impl<B: Blobs> Catalog<B> {
     /// The number of commits.
     pub fn count(&mut self, alloc: Global) -> Result<u32, ReadErr>
         ensures reads { (cs : List Stored) → IsOpenFor self.old (B.seen self.old.area) cs → IsRead (length cs) result }
+        // Settled, nothing is called.
+        ensures runs { self.old.settled ≡ true → RunsReading [] (B.seen self.old.area) (B.seen self.new.area) result }
         ensures stays { StaysOpen self.old self.new (B.seen self.old.area) (B.seen self.new.area) (IsErrOf result ReadErr.Fault) }
         ensures damaged { (m : Area) → (B.seen self.old.area).held ≡ Some m → IfDamagedRead result (IsUnsettled m self.old) }
     {
@@ -123,6 +128,10 @@ impl<B: Blobs> Catalog<B> {
     /// The rows of the commits above a number, in order.
     pub fn items_after(&mut self, alloc: Global, cursor: u32) -> Result<Many<Row>, ReadErr>
         ensures reads { (cs : List Stored) → IsOpenFor self.old (B.seen self.old.area) cs → IsRead (rows_above cursor (all_rows cs)) result }
+        // Settled, nothing is called.
+        ensures runs { self.old.settled ≡ true → RunsReading [] (B.seen self.old.area) (B.seen self.new.area) result }
+        // Of every area: they are of the rows kept.
+        ensures kept { IfOk result (λ rows. rows ≡ rows_above cursor self.new.kept.rows) }
         ensures stays { StaysOpen self.old self.new (B.seen self.old.area) (B.seen self.new.area) (IsErrOf result ReadErr.Fault) }
         ensures settled { OnOk result (self.new.settled ≡ true) }
         ensures damaged { (m : Area) → (B.seen self.old.area).held ≡ Some m → IfDamagedRead result (IsUnsettled m self.old) }
@@ -156,6 +165,9 @@ impl<B: Blobs> Catalog<B> {
     ) -> Result<Bytes, ReadErr>
         ensures reads { (cs : List Stored) (c : Stored) (brought : Staged) → IsOpenFor self.old (B.seen self.old.area) cs → Contains cs c
             → c.commit.number ≡ number → slice_get c.staged place ≡ Some (Some brought) → IsRead (staged_bytes nuspec brought) result }
+        // Settled, the blob is got once, and nothing else is called.
+        ensures runs { self.old.settled ≡ true
+            → RunsReading (Get (staged_name number place nuspec) ∷ []) (B.seen self.old.area) (B.seen self.new.area) result }
         ensures stays { StaysOpen self.old self.new (B.seen self.old.area) (B.seen self.new.area) (IsErrOf result ReadErr.Fault) }
         ensures held { (now : Area) → (B.seen self.new.area).held ≡ Some now → IfOk result (λ bytes. get now (staged_name number place nuspec) ≡ Some bytes) }
         ensures damaged { (m now : Area) → (B.seen self.old.area).held ≡ Some m → (B.seen self.new.area).held ≡ Some now

@@ -8,7 +8,8 @@ ghost use Rattle.catalog_doc.specs.CatDocs.{all_rows};
 ghost use Rattle.catalog_doc.specs.Names.{leaf_name};
 ghost use Rattle.catalog_doc.specs.declared.row.Row.{Row};
 ghost use Rattle.catalog_opening.specs.Errors.{IfDamagedRead};
-ghost use Rattle.catalog_items.specs.Leaves.{AreCommitsAt, HasNoLeaf, HoldsLeaf, IsNoLeafOf, row_with};
+ghost use Rattle.catalog_opening.specs.Plans.{RunsReading};
+ghost use Rattle.catalog_items.specs.Leaves.{AreCommitsAt, HasNoLeaf, HoldsLeaf, IsNoLeafOf, leaf_gets, row_with};
 ghost use Rattle.catalog_items.specs.Reads.{IsRead};
 ghost use Rattle.catalog_core.specs.Framing.{StaysOpen};
 ghost use Rattle.catalog_core.specs.Opened.{IsOpenFor, IsUnsettled};
@@ -25,6 +26,9 @@ impl<B: Blobs> Catalog<B> {
     pub fn leaf(&mut self, alloc: Global, number: u32, place: u32) -> Result<Item, ReadErr>
         ensures reads { (cs : List Stored) (c : Stored) (it : Item) → IsOpenFor self.old (B.seen self.old.area) cs → Contains cs c
             → c.commit.number ≡ number → slice_get c.commit.items place ≡ Some it → IsRead it result }
+        // Settled, the leaf of the row kept is got once, where there is one, and nothing else is called.
+        ensures runs { self.old.settled ≡ true
+            → RunsReading (leaf_gets (row_with number place self.old.kept.rows)) (B.seen self.old.area) (B.seen self.new.area) result }
         ensures absent { (cs : List Stored) → IsOpenFor self.old (B.seen self.old.area) cs → row_with number place (all_rows cs) ≡ None
             → IfOk result (λ it. ⊥) }
         ensures stays { StaysOpen self.old self.new (B.seen self.old.area) (B.seen self.new.area) (IsErrOf result ReadErr.Fault) }

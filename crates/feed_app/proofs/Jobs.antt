@@ -96,6 +96,7 @@ stays_as o n a b F G stays to back = record {
   mends = record { counts = counts_as a.faults b.faults F G stays.mends.counts to back; area = stays.mends.area };
   base = stays.base;
   settled = stays.settled;
+  kept = stays.kept;
   open_for = stays.open_for;
 }
 

@@ -44,6 +44,7 @@ stays_then o mid n a b c P Q first quiet second = record {
   mends = mends_then a b c P Q first.mends quiet second.mends;
   base = second.base ∙ first.base;
   settled = λ is. let at = first.settled is in let next = second.settled at.0 in (next.0, next.1 ∙ at.1);
+  kept = λ is. second.kept (first.settled is).0 ∙ first.kept is;
   open_for = λ cs is.
       let at = first.open_for cs is in
       let next = second.open_for cs at.open_for in

@@ -1,15 +1,16 @@
-use Rattle.std.proofs.Common.{◌≡◌, ◌∙◌, ℕ, List, Err, IfOk, IfSome, ap, inl, inr, refl, sym}
+use Rattle.std.proofs.Common.{◌≡◌, ◌∙◌, ℕ, List, Err, IfOk, IfSome, ap, inl, inr, refl, subst, sym}
 use Rattle.std.proofs.lemmas.Result.{err_from_is_err_and}
 use Rattle.pkg_meta.specs.declared.item.Item.{Item}
 use Rattle.catalog_doc.specs.Names.{leaf_name}
 use Rattle.catalog_doc.specs.declared.row.Row.{Row}
 use Rattle.catalog_opening.proofs.Halting.{damaged_told}
-use Rattle.catalog_items.specs.Leaves.{HasNoLeaf, HoldsLeaf, row_with}
+use Rattle.catalog_items.specs.Leaves.{HasNoLeaf, HoldsLeaf, leaf_gets, row_with}
 use Rattle.catalog_items.proofs.Absent.{read_weaker}
 use Rattle.catalog_items.proofs.Getting.{only_gets}
-use Rattle.catalog_core.specs.Opened.{IsUnsettled}
+use Rattle.catalog_opening.specs.Plans.{RunsReading}
+use Rattle.catalog_core.specs.Opened.{IsUnsettled, Opened}
 use Rattle.catalog_core.proofs.Frames.{ready_of, stays_gets}
-use Rattle.catalog_core.proofs.Reading.{below, leaf_gets_are, leaf_read}
+use Rattle.catalog_core.proofs.Reading.{below, leaf_gets_are, leaf_read, settled_runs}
 use Rattle.catalog_core.proofs.catalog.Catalog.leaf.Goals as goal
 
 pub returns-in_err-settle-clause-damaged : goal.returns-in_err-settle-clause-damaged
@@ -42,3 +43,13 @@ returns-clause-damaged g c = λ m now held at.
     read_weaker (λ (name : List ℕ). (name ≡ leaf_name c.args.number c.args.place) × IfSome (row_with c.args.number c.args.place c.as_slice.result.now) (HasNoLeaf now c.as_str.result.now)) _ c.leaf_at.result
     (λ name told. inr (told.0, below (λ (base : List ℕ) (rows : List Row). IfSome (row_with c.args.number c.args.place rows) (HasNoLeaf now base)) c.as_str.ensures c.as_slice.ensures told.1))
     (c.leaf_at.ensures.damaged now (sym gets.area ∙ at))
+
+pub returns-in_err-settle-clause-runs : goal.returns-in_err-settle-clause-runs
+returns-in_err-settle-clause-runs g c = λ settled. absurd (c.in_err-settle.ensures.same settled).1
+
+pub returns-clause-runs : goal.returns-clause-runs
+returns-clause-runs g c = λ settled.
+    settled_runs g.B.Blobs.seen c.args.self.now _ (λ (o : Opened _). leaf_gets (row_with c.args.number c.args.place o.kept.rows)) (g.B.Blobs.seen c.leaf_at.new.area) c.leaf_at.result
+    (c.self.view_is ∙ (c.in_ok-settle.ensures.same settled).0)
+    (subst (λ (rows : List Row). RunsReading (leaf_gets (row_with c.args.number c.args.place rows)) (g.B.Blobs.seen c.self.inside.area) (g.B.Blobs.seen c.leaf_at.new.area) c.leaf_at.result)
+    c.as_slice.ensures c.leaf_at.ensures.runs)

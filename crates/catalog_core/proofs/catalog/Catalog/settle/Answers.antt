@@ -1,7 +1,7 @@
 use Rattle.std.proofs.Common.{◌∙◌, [], Err, Ok, ap, inl, refl, sym}
 use Rattle.std.proofs.lemmas.Result.{err_from_is_err_and}
 use Rattle.catalog_opening.specs.Settlings.{IsDamagedOrTooMany}
-use Rattle.catalog_opening.proofs.Halting.{damaged_told}
+use Rattle.catalog_opening.proofs.Halting.{damaged_told, differs}
 use Rattle.catalog_items.proofs.Getting.{done_quietly, fault_told, memory_quietly}
 use Rattle.blob_store.proofs.OneCall.{none}
 use Rattle.catalog_core.specs.Opened.{IsUnsettled, Opened}
@@ -82,3 +82,15 @@ returns-clause-runs g c =
     rw (← c.self.view_is) (λ cs open_for.
     settling_runs {A = Unit {0}} _ c.as_str.result.now c.pages.result.now c.as_str.ensures c.pages.ensures c.if-self.false (g.B.Blobs.seen c.self.inside.area) (g.B.Blobs.seen c.settle.new.area) (Ok tt)
     c.in_ok-more.ensures.runs cs open_for)
+
+pub returns-then-self-clause-same : goal.returns-then-self-clause-same
+returns-then-self-clause-same g c = λ settled. (refl, tt)
+
+pub returns-in_err-more-clause-same : goal.returns-in_err-more-clause-same
+returns-in_err-more-clause-same g c = λ settled. absurd (differs (sym (ap (λ (x : Opened _). x.settled) c.self.view_is) ∙ c.if-self.false) settled)
+
+pub returns-in_err-take_in-clause-same : goal.returns-in_err-take_in-clause-same
+returns-in_err-take_in-clause-same g c = λ settled. absurd (differs (sym (ap (λ (x : Opened _). x.settled) c.self.view_is) ∙ c.if-self.false) settled)
+
+pub returns-clause-same : goal.returns-clause-same
+returns-clause-same g c = λ settled. absurd (differs (sym (ap (λ (x : Opened _). x.settled) c.self.view_is) ∙ c.if-self.false) settled)

@@ -6,9 +6,10 @@ use Rattle.catalog_opening.proofs.Halting.{damaged_told}
 use Rattle.catalog_items.specs.Reads.{IsAbsent}
 use Rattle.catalog_items.proofs.Absent.{read_weaker}
 use Rattle.catalog_items.proofs.Getting.{only_gets}
-use Rattle.catalog_core.specs.Opened.{IsUnsettled}
+use Rattle.catalog_opening.specs.Plans.{RunsReading}
+use Rattle.catalog_core.specs.Opened.{IsUnsettled, Opened}
 use Rattle.catalog_core.proofs.Frames.{ready_of, stays_gets}
-use Rattle.catalog_core.proofs.Reading.{staged_read}
+use Rattle.catalog_core.proofs.Reading.{settled_quiet, settled_runs, staged_read}
 use Rattle.catalog_core.proofs.catalog.Catalog.staged.Goals as goal
 
 pub returns-in_err-settle-clause-damaged : goal.returns-in_err-settle-clause-damaged
@@ -35,3 +36,19 @@ returns-clause-damaged g c = λ m now held at.
     let named : c.deref.result.now ≡ staged_name c.args.number c.args.place c.args.nuspec = c.deref.ensures ∙ c.in_ok-name.ensures in
     read_weaker (IsAbsent c.deref.result.now now) _ c.bytes_at.result
     (λ name told. inr (subst (λ (n : List ℕ). IsAbsent n now name) named told)) (c.bytes_at.ensures.damaged now (sym gets.area ∙ at))
+
+pub returns-in_err-settle-clause-runs : goal.returns-in_err-settle-clause-runs
+returns-in_err-settle-clause-runs g c = λ settled. absurd (c.in_err-settle.ensures.same settled).1
+
+pub returns-in_err-name-clause-runs : goal.returns-in_err-name-clause-runs
+returns-in_err-name-clause-runs g c = λ settled.
+    let p = err_from_is_err_and c.from_residual-in_err-name.result c.from_residual-in_err-name.ensures.1 in
+    settled_quiet g.B.Blobs.seen c.args.self.now c.settle.new.self (Get (staged_name c.args.number c.args.place c.args.nuspec) ∷ []) c.from_residual-in_err-name.result
+    (c.in_ok-settle.ensures.same settled).0 (g.met.B.Blobs.now c.settle.new.self.area) (p.1 ∙ ap Err p.2)
+
+pub returns-clause-runs : goal.returns-clause-runs
+returns-clause-runs g c = λ settled.
+    settled_runs g.B.Blobs.seen c.args.self.now _ (λ (o : Opened _). Get (staged_name c.args.number c.args.place c.args.nuspec) ∷ []) (g.B.Blobs.seen c.bytes_at.new.area) c.bytes_at.result
+    (c.self.view_is ∙ (c.in_ok-settle.ensures.same settled).0)
+    (subst (λ (n : List ℕ). RunsReading (Get n ∷ []) (g.B.Blobs.seen c.self.inside.area) (g.B.Blobs.seen c.bytes_at.new.area) c.bytes_at.result)
+    (c.deref.ensures ∙ c.in_ok-name.ensures) c.bytes_at.ensures.runs)
