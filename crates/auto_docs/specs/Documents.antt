@@ -16,8 +16,8 @@ abbrev pub keeps_listed : Details → Bool
 keeps_listed d = d.listed
 
 -- the full form of an entry's version, as JSON
-abbrev pub version_data : Entry → Data
-version_data e = string (full_text (version_in e))
+abbrev pub auto_version_data : Entry → Data
+auto_version_data e = string (full_text (version_in e))
 
 -- the id as the last entry spells it, empty for no entries
 abbrev pub last_id : List Entry → List ℕ
@@ -26,21 +26,21 @@ last_id (e ∷ []) = e.details.meta.id.text
 last_id (e ∷ f ∷ es) = last_id (f ∷ es)
 
 -- an id and versions
-abbrev pub index_object : List ℕ → List Data → Data
-index_object id versions = object
+abbrev pub auto_index_object : List ℕ → List Data → Data
+auto_index_object id versions = object
     (member (codes "id") (string id)
     (member (codes "versions") (array (items_of versions))
     no_members))
 
 -- the last entry's id, and the full forms of the versions, by rising precedence
 unfoldable pub index_text : List Entry → List ℕ
-index_text es = compact_text (index_object (last_id es) (map version_data es))
+index_text es = compact_text (auto_index_object (last_id es) (map auto_version_data es))
 
 -- the id's index
-abbrev pub index_doc : List ℕ → List Entry → Doc
-index_doc key es = record { name = index_name key; body = Made (index_text es) }
+abbrev pub auto_index_doc : List ℕ → List Entry → Doc
+auto_index_doc key es = record { name = index_name key; body = Made (index_text es) }
 
 -- none for no entries
 abbrev pub auto_docs : List ℕ → List ℕ → ℕ → ℕ → List Entry → List Doc
 auto_docs base key number stamp [] = []
-auto_docs base key number stamp (e ∷ es) = index_doc key (e ∷ es) ∷ []
+auto_docs base key number stamp (e ∷ es) = auto_index_doc key (e ∷ es) ∷ []

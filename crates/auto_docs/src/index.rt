@@ -2,21 +2,21 @@
 ghost use Rattle.std.specs.Prelude.{◌≡◌, ℕ, List, IfOk, map};
 ghost use Rattle.serde_json.specs.View.{view};
 ghost use Rattle.fold_core.specs.Docs.{index_name};
-ghost use Rattle.auto_docs.specs.Documents.{auto_docs, index_doc, index_object, index_text, last_id, version_data};
+ghost use Rattle.auto_docs.specs.Documents.{auto_docs, auto_index_doc, auto_index_object, index_text, last_id, auto_version_data};
 
 use fold_core::{Body, Bytes, Doc, Entry, Many, NoMemory, Text};
 use serde_json::{Value, json};
 use std::alloc::{AllocError, Global};
 
 fn version_value(alloc: Global, entry: &Entry) -> Result<Value, NoMemory>
-    ensures { IfOk result (λ v. view v ≡ version_data entry.now) }
+    ensures { IfOk result (λ v. view v ≡ auto_version_data entry.now) }
 {
     let version = entry.details.meta.version.full(alloc)?;
     Ok(Value::String(version.into_string()))
 }
 
 fn version_values(alloc: Global, entries: &[Entry]) -> Result<Vec<Value>, NoMemory>
-    ensures { IfOk result (λ values. map view values.items ≡ map version_data entries.now) }
+    ensures { IfOk result (λ values. map view values.items ≡ map auto_version_data entries.now) }
 {
     let mut values = Vec::new(alloc);
     for entry in entries {
@@ -35,8 +35,8 @@ fn last_id(entries: &[Entry]) -> &str
     }
 }
 
-fn index_object(alloc: Global, id: &str, versions: Vec<Value>) -> Result<Value, AllocError>
-    ensures { IfOk result (λ v. view v ≡ index_object id.now (map view versions.items)) }
+fn auto_index_object(alloc: Global, id: &str, versions: Vec<Value>) -> Result<Value, AllocError>
+    ensures { IfOk result (λ v. view v ≡ auto_index_object id.now (map view versions.items)) }
 {
     json!(in alloc; {"id": id, "versions": versions})
 }
@@ -46,7 +46,7 @@ fn index_bytes(alloc: Global, entries: &[Entry]) -> Result<Bytes, NoMemory>
     ensures { IfOk result (λ bytes. bytes ≡ index_text entries.now) }
 {
     let versions = version_values(alloc, entries)?;
-    let value = index_object(alloc, last_id(entries), versions)?;
+    let value = auto_index_object(alloc, last_id(entries), versions)?;
     let bytes = value.to_vec(alloc)?;
     Ok(Bytes::of(bytes))
 }
@@ -58,8 +58,8 @@ fn index_name(alloc: Global, key: &str) -> Result<Text, NoMemory>
     Ok(Text::of(name))
 }
 
-fn index_doc(alloc: Global, key: &str, entries: &[Entry]) -> Result<Doc, NoMemory>
-    ensures { IfOk result (λ doc. doc ≡ index_doc key.now entries.now) }
+fn auto_index_doc(alloc: Global, key: &str, entries: &[Entry]) -> Result<Doc, NoMemory>
+    ensures { IfOk result (λ doc. doc ≡ auto_index_doc key.now entries.now) }
 {
     let name = index_name(alloc, key)?;
     let body = Body::Made(index_bytes(alloc, entries)?);
@@ -73,6 +73,6 @@ pub(crate) fn auto_docs(alloc: Global, key: &str, entries: &[Entry]) -> Result<M
     if entries.is_empty() {
         return Ok(docs);
     }
-    docs.push(index_doc(alloc, key, entries)?)?;
+    docs.push(auto_index_doc(alloc, key, entries)?)?;
     Ok(docs)
 }

@@ -10,8 +10,8 @@ use Rattle.blob_dir.specs.declared.access.Access.{Access}
 use Rattle.blob_dir.specs.declared.dir_blobs.DirBlobs.{DirBlobs}
 
 -- no call was made, this is its folder's path, and this is what it may do there
-abbrev pub IsNewStore : {R : Type 0} → List ℕ → Access → DirBlobs R → Type 0
-IsNewStore path access s = (s.folder.path ≡ path) × (s.folder.access ≡ access) × (s.calls ≡ 0) × (s.faults ≡ 0)
+abbrev pub IsNewFolderStore : {R : Type 0} → List ℕ → Access → DirBlobs R → Type 0
+IsNewFolderStore path access s = (s.folder.path ≡ path) × (s.folder.access ≡ access) × (s.calls ≡ 0) × (s.faults ≡ 0)
 
 -- one more, while there is a greater number
 abbrev pub next : ℕ → ℕ
@@ -24,8 +24,8 @@ faults_after (Err Memory) faults = faults
 faults_after (Err Failed) faults = next faults
 
 -- a call more was made, with this answer
-abbrev pub HasCalled : {T R : Type 0} → Result T BlobErr → DirBlobs R → DirBlobs R → Type 0
-HasCalled answer old new = (new.folder ≡ old.folder) × (new.calls ≡ next old.calls) × (new.faults ≡ faults_after answer old.faults)
+abbrev pub HasCalledFolder : {T R : Type 0} → Result T BlobErr → DirBlobs R → DirBlobs R → Type 0
+HasCalledFolder answer old new = (new.folder ≡ old.folder) × (new.calls ≡ next old.calls) × (new.faults ≡ faults_after answer old.faults)
 
 -- what a crash may leave of an area of which nothing is told: anything
 abbrev pub Anything : Area → Type 0

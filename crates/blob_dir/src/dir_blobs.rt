@@ -3,7 +3,7 @@ ghost use Rattle.std.specs.Prelude.{◌≡◌, ◌<◌, ◌≤◌, false, length
 ghost use Rattle.std.specs.declared.option.Option.TheVariants.{None};
 ghost use Rattle.std.specs.declared.result.Result.TheVariants.{Err};
 ghost use Rattle.feed_base.specs.Counts.{CountsFault};
-ghost use Rattle.blob_dir.specs.Counted.{Anything, ElapsesUntold, HasCalled, IsNewStore};
+ghost use Rattle.blob_dir.specs.Counted.{Anything, ElapsesUntold, HasCalledFolder, IsNewFolderStore};
 ghost use Rattle.blob_dir.specs.Locked.{access_of};
 ghost use Rattle.blob_dir.specs.Names.{blob_limit, is_blob_name};
 ghost use Rattle.blob_dir.specs.declared.access.Access.TheVariants.{Granted, Absent, Denied};
@@ -39,20 +39,20 @@ impl<R: Files + Drop> DirBlobs<R> {
     /// delete there meanwhile. An empty path is the root of the file system. A path without a slash at its start
     /// begins where the program runs.
     pub fn at(files: R, alloc: Global, path: &str) -> Result<Self, NoMemory>
-        ensures fresh { IfOk result (IsNewStore path.now Granted) }
+        ensures fresh { IfOk result (IsNewFolderStore path.now Granted) }
     {
         DirBlobs::with_access(files, alloc, path, Access::Granted)
     }
 
     /// The store in the folder of this path, which does there what the lock gave access to.
     pub fn locked(files: R, alloc: Global, path: &str, lock: &FolderLock) -> Result<Self, NoMemory>
-        ensures fresh { IfOk result (IsNewStore path.now (access_of lock.now)) }
+        ensures fresh { IfOk result (IsNewFolderStore path.now (access_of lock.now)) }
     {
         DirBlobs::with_access(files, alloc, path, lock.access())
     }
 
     fn with_access(files: R, alloc: Global, path: &str, access: Access) -> Result<Self, NoMemory>
-        ensures fresh { IfOk result (IsNewStore path.now access) }
+        ensures fresh { IfOk result (IsNewFolderStore path.now access) }
     {
         let path = Text::copy_of(alloc, path)?;
         Ok(DirBlobs {
@@ -69,7 +69,7 @@ impl<R: Files + Drop> DirBlobs<R> {
     // Counts a call by its answer.
     fn count<T: Drop>(&mut self, answer: Result<T, BlobErr>) -> Result<T, BlobErr>
         ensures same { result ≡ answer }
-        ensures counted { HasCalled answer self.old self.new }
+        ensures counted { HasCalledFolder answer self.old self.new }
         ensures time { ElapsesUntold self.old.calls self.new.calls }
         ensures cause { CountsFault self.old.faults self.new.faults (IsErrOf answer BlobErr.Failed) }
     {
@@ -147,7 +147,7 @@ impl<R: Files + Drop> Blobs for DirBlobs<R> {
         ensures denied { self.old.folder.access ≡ Denied → result ≡ Err BlobErr.Failed }
         ensures absent { self.old.folder.access ≡ Absent → IfOk result (λ found. found ≡ None) }
         ensures within { IfOk result (λ found. IfSome found (λ bytes. length bytes ≤ blob_limit)) }
-        ensures counted { HasCalled result self.old self.new }
+        ensures counted { HasCalledFolder result self.old self.new }
         ensures time { ElapsesUntold self.old.calls self.new.calls }
         ensures cause { CountsFault self.old.faults self.new.faults (IsErrOf result BlobErr.Failed) }
     {
@@ -159,7 +159,7 @@ impl<R: Files + Drop> Blobs for DirBlobs<R> {
         ensures outside { is_blob_name name.now ≡ false → result ≡ Err BlobErr.Failed }
         ensures denied { (self.old.folder.access ≡ Granted → ⊥) → result ≡ Err BlobErr.Failed }
         ensures too_long { blob_limit < length bytes.now → result ≡ Err BlobErr.Failed }
-        ensures counted { HasCalled result self.old self.new }
+        ensures counted { HasCalledFolder result self.old self.new }
         ensures time { ElapsesUntold self.old.calls self.new.calls }
         ensures cause { CountsFault self.old.faults self.new.faults (IsErrOf result BlobErr.Failed) }
     {
@@ -170,7 +170,7 @@ impl<R: Files + Drop> Blobs for DirBlobs<R> {
     fn delete(&mut self, alloc: Global, name: &str) -> Result<(), BlobErr>
         ensures outside { is_blob_name name.now ≡ false → result ≡ Err BlobErr.Failed }
         ensures denied { (self.old.folder.access ≡ Granted → ⊥) → result ≡ Err BlobErr.Failed }
-        ensures counted { HasCalled result self.old self.new }
+        ensures counted { HasCalledFolder result self.old self.new }
         ensures time { ElapsesUntold self.old.calls self.new.calls }
         ensures cause { CountsFault self.old.faults self.new.faults (IsErrOf result BlobErr.Failed) }
     {

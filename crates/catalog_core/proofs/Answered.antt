@@ -11,7 +11,7 @@ use Rattle.catalog_opening.specs.declared.error.OpenErr.{OpenErr}
 use Rattle.catalog_opening.specs.declared.error.OpenErr.TheVariants as opening
 use Rattle.catalog_opening.proofs.Mended.{mends_as}
 use Rattle.catalog_rows.specs.Kept.{IsKeptOf, Kept}
-use Rattle.catalog_core.specs.Opened.{IsOpenFor, IsStoreFor, Keeps, Opened}
+use Rattle.catalog_core.specs.Opened.{IsOpenFor, IsStoreFor, KeepsRows, Opened}
 use Rattle.catalog_core.specs.Openings.{IsOpenedAs, IsRefusedOpening, OpensAs}
 use Rattle.catalog_core.specs.declared.opening.Opening.{Opening}
 
@@ -37,7 +37,7 @@ module _ (given : Option (List ℕ)) (base : List ℕ) (cs : Catalog) (a b : See
 pub open_as : {B : Type 0} (o : Opened B) (s : Seen) (base : List ℕ) (cs : Catalog) → IsCatalog cs → IsKeptOf o.kept cs → o.base ≡ base → o.settled ≡ true → IsSettledStoreOf s base cs → IsOpenFor o s cs
 open_as o s base cs lawful keeps below settled store = record {
   lawful = lawful;
-  keeps = subst (λ (x : _). Keeps x o.kept cs) (sym settled) keeps;
+  keeps = subst (λ (x : _). KeepsRows x o.kept cs) (sym settled) keeps;
   store = subst (λ (x : _). IsStoreFor x s o.base cs) (sym settled) (subst (λ (l : List ℕ). IsSettledStoreOf s l cs) (sym below) store);
 }
 

@@ -27,7 +27,7 @@ use Rattle.catalog_laws.proofs.Kept.{none_catalog}
 use Rattle.catalog_opening.proofs.Prefixes.{after_gets_alone, after_prefix, plan_holds}
 use Rattle.catalog_items.proofs.Getting.{counts_as}
 use Rattle.catalog_core.specs.Errors.{init_err_of}
-use Rattle.catalog_core.specs.Opened.{IsOpenFor, IsStoreFor, Keeps, Opened}
+use Rattle.catalog_core.specs.Opened.{IsOpenFor, IsStoreFor, KeepsRows, Opened}
 use Rattle.catalog_core.specs.Openings.{init_plan, IsFirstArea, RunsInit, StopsInit}
 use Rattle.catalog_core.specs.declared.error.InitErr.{InitErr}
 use Rattle.catalog_core.specs.declared.error.InitErr.TheVariants as init
@@ -105,7 +105,7 @@ pub first_open : {B : Type 0} (o : Opened B) (s : Seen) → IsUtf8 o.base → o.
     → s.held ≡ Some (with_blob index_name (index_text o.base []) empty) → IsOpenFor o s []
 first_open o s text rows pages settled held = record {
   lawful = none_catalog;
-  keeps = subst (λ (x : _). Keeps x o.kept []) (sym settled) (record { rows = sym rows; pages = sym pages });
+  keeps = subst (λ (x : _). KeepsRows x o.kept []) (sym settled) (record { rows = sym rows; pages = sym pages });
   store = subst (λ (x : _). IsStoreFor x s o.base []) (sym settled)
       (with_blob index_name (index_text o.base []) empty, held, none_spelled o.base text, get_put index_name (index_text o.base []) empty);
 }

@@ -16,7 +16,7 @@ use Rattle.catalog_items.specs.Framing.{OnlyGets}
 use Rattle.catalog_items.proofs.Getting.{counts_none, counts_then, leaves_then}
 use Rattle.catalog_rows.specs.Kept.{IsKeptOf, Kept}
 use Rattle.catalog_core.specs.Framing.{StaysOpen}
-use Rattle.catalog_core.specs.Opened.{IsKeptOfMost, IsOpenFor, IsReady, IsStoreFor, Keeps, Opened}
+use Rattle.catalog_core.specs.Opened.{IsKeptOfMost, IsOpenFor, IsReady, IsStoreFor, KeepsRows, Opened}
 
 -- the store after gets is of the same catalog
 pub store_gets : (settled : Bool) (base : List ℕ) (cs : Catalog) (a b : Seen) → b.held ≡ a.held → IsStoreFor settled a base cs → IsStoreFor settled b base cs
@@ -36,7 +36,7 @@ ready_of o s cs settled open_for = record { settled = settled; open_for = open_f
 -- a catalog that is settled
 module _ {B : Type 0} (o : Opened B) (s : Seen) (cs : Catalog) (ready : IsReady o s cs) where
   pub ready_keeps : IsKeptOf o.kept cs
-  ready_keeps = subst (λ (x : Bool). Keeps x o.kept cs) ready.settled ready.open_for.keeps
+  ready_keeps = subst (λ (x : Bool). KeepsRows x o.kept cs) ready.settled ready.open_for.keeps
 
   pub ready_store : IsSettledStoreOf s o.base cs
   ready_store = subst (λ (x : Bool). IsStoreFor x s o.base cs) ready.settled ready.open_for.store
@@ -44,11 +44,11 @@ module _ {B : Type 0} (o : Opened B) (s : Seen) (cs : Catalog) (ready : IsReady 
 -- it stays open for the catalog where nothing of it changes, and its area stays
 pub still_open : {B : Type 0} (o n : Opened B) (a b : Seen) (cs : Catalog) → n.kept ≡ o.kept → n.base ≡ o.base → n.settled ≡ o.settled → b.held ≡ a.held → IsOpenFor o a cs → IsOpenFor n b cs
 still_open o n a b cs kept base settled same open_for =
-    let k : Keeps n.settled o.kept cs = subst (λ (x : Bool). Keeps x o.kept cs) (sym settled) open_for.keeps in
+    let k : KeepsRows n.settled o.kept cs = subst (λ (x : Bool). KeepsRows x o.kept cs) (sym settled) open_for.keeps in
     let s : IsStoreFor n.settled a o.base cs = subst (λ (x : Bool). IsStoreFor x a o.base cs) (sym settled) open_for.store in
     record {
       lawful = open_for.lawful;
-      keeps = subst (λ (x : Kept). Keeps n.settled x cs) (sym kept) k;
+      keeps = subst (λ (x : Kept). KeepsRows n.settled x cs) (sym kept) k;
       store = store_gets n.settled n.base cs a b same (subst (λ (x : List ℕ). IsStoreFor n.settled a x cs) (sym base) s);
     }
 
@@ -106,7 +106,7 @@ known_part kept cs lawful (inr (before, last, is, keeps)) = record {
 
 module _ {B : Type 0} (o : Opened B) (a : Seen) (unsettled : o.settled ≡ false) (cs : Catalog) (is : IsOpenFor o a cs) where
   pub known_of : KnownPart o.kept cs
-  known_of = known_part o.kept cs is.lawful (subst (λ (x : Bool). Keeps x o.kept cs) unsettled is.keeps)
+  known_of = known_part o.kept cs is.lawful (subst (λ (x : Bool). KeepsRows x o.kept cs) unsettled is.keeps)
 
   pub store_known : IsStoreOf a o.base (with_more known_of.before known_of.last)
   store_known = subst (IsStoreOf a o.base) (sym known_of.is) (known_store o a cs is)
@@ -134,7 +134,7 @@ stays_settled o n a b P unsettled mends spelled index took base settled = record
       record {
         open_for = record {
           lawful = is.lawful;
-          keeps = subst (λ (x : Bool). Keeps x n.kept cs) (sym settled) keeps;
+          keeps = subst (λ (x : Bool). KeepsRows x n.kept cs) (sym settled) keeps;
           store = subst (λ (x : List ℕ). IsStoreFor n.settled b x cs) (sym base) (subst (λ (x : Bool). IsStoreFor x b o.base cs) (sym settled) stands);
         };
         moments = subst (KeepsSpelling a b o.base) part.is (spelled part.before part.last part.known store).1;
@@ -152,12 +152,12 @@ stays_unsettled o n a b P unsettled mends spelled kept base settled = record {
   open_for = λ cs is.
       let part = known_of o a unsettled cs is in
       let store = store_known o a unsettled cs is in
-      let keeps : Keeps n.settled o.kept cs = subst (λ (x : Bool). Keeps x o.kept cs) (sym settled) is.keeps in
+      let keeps : KeepsRows n.settled o.kept cs = subst (λ (x : Bool). KeepsRows x o.kept cs) (sym settled) is.keeps in
       let stands : IsStoreOf b o.base cs = subst (IsStoreOf b o.base) part.is (spelled part.before part.last part.known store).0 in
       record {
         open_for = record {
           lawful = is.lawful;
-          keeps = subst (λ (x : Kept). Keeps n.settled x cs) (sym kept) keeps;
+          keeps = subst (λ (x : Kept). KeepsRows n.settled x cs) (sym kept) keeps;
           store = subst (λ (x : List ℕ). IsStoreFor n.settled b x cs) (sym base) (subst (λ (x : Bool). IsStoreFor x b o.base cs) (sym (settled ∙ unsettled)) stands);
         };
         moments = subst (KeepsSpelling a b o.base) part.is (spelled part.before part.last part.known store).1;

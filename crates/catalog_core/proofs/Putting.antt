@@ -24,22 +24,22 @@ use Rattle.catalog_opening.specs.Openings.{IsSettledStoreOf}
 use Rattle.catalog_rows.specs.Kept.{HoldsSame, IsKeptOf, TakesIn}
 use Rattle.catalog_rows.proofs.PageHeads.{kept_same}
 use Rattle.catalog_core.specs.Committing.{PutsCommit, RunsPuts}
-use Rattle.catalog_core.specs.Opened.{IsOpenFor, IsReady, IsStoreFor, Keeps, Opened}
+use Rattle.catalog_core.specs.Opened.{IsOpenFor, IsReady, IsStoreFor, KeepsRows, Opened}
 use Rattle.catalog_core.proofs.Frames.{ready_keeps, ready_store}
 
 -- an open catalog, settled or not, by its parts
 settled_for : {B : Type 0} (n : Opened B) (b : Seen) (base : List ℕ) (cs : Catalog) → n.base ≡ base → n.settled ≡ true → IsCatalog cs → IsKeptOf n.kept cs → IsSettledStoreOf b base cs → IsOpenFor n b cs
 settled_for n b base cs at settled lawful keeps store = record {
   lawful = lawful;
-  keeps = subst (λ (x : Bool). Keeps x n.kept cs) (sym settled) keeps;
+  keeps = subst (λ (x : Bool). KeepsRows x n.kept cs) (sym settled) keeps;
   store = subst (λ (x : List ℕ). IsStoreFor n.settled b x cs) (sym at) (subst (λ (x : Bool). IsStoreFor x b base cs) (sym settled) store);
 }
 
-unsettled_for : {B : Type 0} (n : Opened B) (b : Seen) (base : List ℕ) (cs : Catalog) (m : Area) → n.base ≡ base → n.settled ≡ false → IsCatalog cs → Keeps false n.kept cs
+unsettled_for : {B : Type 0} (n : Opened B) (b : Seen) (base : List ℕ) (cs : Catalog) (m : Area) → n.base ≡ base → n.settled ≡ false → IsCatalog cs → KeepsRows false n.kept cs
     → b.held ≡ Some m → SpellsCatalog m base cs → IsOpenFor n b cs
 unsettled_for n b base cs m at settled lawful keeps held spells = record {
   lawful = lawful;
-  keeps = subst (λ (x : Bool). Keeps x n.kept cs) (sym settled) keeps;
+  keeps = subst (λ (x : Bool). KeepsRows x n.kept cs) (sym settled) keeps;
   store = subst (λ (x : List ℕ). IsStoreFor n.settled b x cs) (sym at) (subst (λ (x : Bool). IsStoreFor x b base cs) (sym settled) (m, held, spells));
 }
 

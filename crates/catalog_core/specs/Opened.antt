@@ -22,9 +22,9 @@ abbrev pub IsKeptOfMost : Kept → Catalog → Type 0
 IsKeptOfMost kept cs = IsKeptOf kept cs ⊎ ((before : Catalog) × (last : Stored) × (cs ≡ before ++ last ∷ []) × IsKeptOf kept before)
 
 -- What is kept of the catalog: settled, all of it. After a call that stopped within its puts the last commit may be unknown.
-abbrev pub Keeps : Bool → Kept → Catalog → Type 0
-Keeps true kept cs = IsKeptOf kept cs
-Keeps false kept cs = IsKeptOfMost kept cs
+abbrev pub KeepsRows : Bool → Kept → Catalog → Type 0
+KeepsRows true kept cs = IsKeptOf kept cs
+KeepsRows false kept cs = IsKeptOfMost kept cs
 
 -- the store tells an area that spells the catalog; settled, its index doesn't lag
 abbrev pub IsStoreFor : Bool → Seen → List ℕ → Catalog → Type 0
@@ -34,7 +34,7 @@ IsStoreFor false s base cs = IsStoreOf s base cs
 -- the open catalog is open for this one, where this is told of its store
 pub record IsOpenFor {B : Type 0} (o : Opened B) (s : Seen) (cs : Catalog) : Type 0 where
   pub lawful : IsCatalog cs
-  pub keeps : Keeps o.settled o.kept cs
+  pub keeps : KeepsRows o.settled o.kept cs
   pub store : IsStoreFor o.settled s o.base cs
 
 -- it is settled, and open for this one

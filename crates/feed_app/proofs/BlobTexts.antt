@@ -6,11 +6,11 @@ use Rattle.fold_core.specs.declared.hive.HiveName.TheVariants.{Plain, SemVer2, C
 use Rattle.job_round.specs.Answers.{in_hive}
 use Rattle.admin_wire.specs.declared.area.AreaName.{AreaName}
 use Rattle.admin_wire.specs.declared.line.Line.TheVariants.{Damaged}
-use Rattle.feed_routes.specs.Cuts.{IsFree}
+use Rattle.feed_routes.specs.Cuts.{IsFreeSegment}
 use Rattle.feed_app.specs.declared.answer.Answer.TheVariants.{Reply}
 
 -- no word has a slash
-pub free_word : (hive : HiveName) → IsFree 47 (hive_text hive)
+pub free_word : (hive : HiveName) → IsFreeSegment 47 (hive_text hive)
 free_word Plain = refl
 free_word SemVer2 = refl
 free_word Content = refl

@@ -15,7 +15,7 @@ use Rattle.admin_wire.specs.declared.area.AreaName.TheVariants as area
 use Rattle.feed_app.specs.Accepts.{Accepts}
 use Rattle.feed_app.specs.Answers.{answer_status}
 use Rattle.feed_app.specs.Frame.{Explains}
-use Rattle.feed_app.specs.Gets.{Gets, HasCatalogDocument, HasHiveDocument, HasIndex, HoldsDocument, HoldsIndex, IsHeld, OfCatalog, OfDocument, OfHive, AnswersPath, get_meaning}
+use Rattle.feed_app.specs.Gets.{Gets, HasCatalogDocument, HasHiveDocument, HasIndex, HoldsDocument, HoldsServiceIndex, IsHeld, OfCatalog, OfDocument, OfHive, AnswersPath, get_meaning}
 use Rattle.feed_app.specs.Hives.{hive_area, hive_stores}
 use Rattle.feed_app.specs.Openings.{IsOfStore, NotOpened}
 use Rattle.feed_app.specs.Outside.{AreaRose, Members, Shows, Sight, held}
@@ -132,7 +132,7 @@ module _ {B : Type 0} (m : Members B) (answer : Answer) (path bytes : List ℕ) 
   by_catalog name blobs there holds names (inr (same, inr (inr (inr (inl unknown))))) = absurd (unknown.0 (ask.CatalogDoc name) names)
   by_catalog name blobs there holds names (inr (same, inr (inr (inr (inr memory))))) = inr (inr memory)
 
-  by_index : (blobs : Area) → catalog.held ≡ Some blobs → HoldsIndex blobs bytes → IsIndexPath path
+  by_index : (blobs : Area) → catalog.held ≡ Some blobs → HoldsServiceIndex blobs bytes → IsIndexPath path
       → AnswersPath m answer path (HasCatalog catalog) old new → IsGood area.Catalog bytes answer
   by_index blobs there holds names (inl (hive, rest, its, is, others)) = absurd (hive_index hive path rest its names)
   by_index blobs there holds names (inr (same, inl of_name)) = absurd (catalog_index path of_name.0 of_name.1 names)

@@ -83,8 +83,8 @@ abbrev pub HoldsDocument : Area → List ℕ → List ℕ → Type 0
 HoldsDocument m name bytes = (base : List ℕ) × (cs : Catalog) × IsCatalog cs × SpellsCatalog m base cs × (doc_at base cs name ≡ Some bytes)
 
 -- the area spells a catalog below a base address that has this service index
-abbrev pub HoldsIndex : Area → List ℕ → Type 0
-HoldsIndex m bytes = (base : List ℕ) × (cs : Catalog) × IsCatalog cs × SpellsCatalog m base cs × (service_index_text base ≡ bytes)
+abbrev pub HoldsServiceIndex : Area → List ℕ → Type 0
+HoldsServiceIndex m bytes = (base : List ℕ) × (cs : Catalog) × IsCatalog cs × SpellsCatalog m base cs × (service_index_text base ≡ bytes)
 
 -- the path names a document of the catalog that the catalog's area spells
 abbrev pub HasCatalogDocument : List ℕ → List ℕ → Option Area → Type 0
@@ -92,7 +92,7 @@ HasCatalogDocument path bytes catalog = (name : List ℕ) × IsCatalogPath path 
 
 -- the path asks for the service index of the base address of the catalog that the catalog's area spells
 abbrev pub HasIndex : List ℕ → List ℕ → Option Area → Type 0
-HasIndex path bytes catalog = IsIndexPath path × Shows catalog (λ m. HoldsIndex m bytes)
+HasIndex path bytes catalog = IsIndexPath path × Shows catalog (λ m. HoldsServiceIndex m bytes)
 
 -- the path names a document of this hive, whose area holds it so beside a catalog
 abbrev pub HasHiveDocument : ServedHive → List ℕ → List ℕ → Option Area → Option Area → Type 0

@@ -13,7 +13,7 @@ use Rattle.id_pass.specs.declared.error.RoundErr.{RoundErr}
 use Rattle.id_pass.specs.declared.error.RoundErr.TheVariants as stop
 use Rattle.id_pass.specs.declared.error.RoundOut.{RoundOut}
 use Rattle.id_pass.specs.declared.error.RoundOut.TheVariants as out
-use Rattle.job_round.specs.Answers.{IfDone, IfIdle, number_of}
+use Rattle.job_round.specs.Answers.{IfDone, IfIdle, told_number}
 use Rattle.job_round.specs.Cursors.{IsCursor}
 use Rattle.job_round.specs.Rounds.{Rounds}
 use Rattle.admin_wire.specs.declared.area.AreaName.TheVariants as area
@@ -31,7 +31,7 @@ use Rattle.feed_app.specs.declared.answer.Answer.TheVariants.{Reply}
 -- commits; where it was done the cursor found was below that, and else at it, and the area is as it was.
 pub record RoundMade (f : Fold) (Is : Catalog → Type 0) (old new : Seen) (result : Result RoundOut RoundErr) : Type 0 where
   pub runs : Rounds f Is old new result
-  pub number : (cs : Catalog) → Is cs → IfOk result (λ told. number_of told ≡ length cs)
+  pub number : (cs : Catalog) → Is cs → IfOk result (λ told. told_number told ≡ length cs)
   pub behind : (cs : Catalog) → Is cs
       → IfOk result (λ told. IfDone told (λ n. IfSome old.held (λ m. (c : ℕ) × IsCursor (get m cursor_name) c × (c < n))))
   pub idle : IfOk result (λ told. IfIdle told (λ n. (new.held ≡ old.held) × IfSome old.held (λ m. IsCursor (get m cursor_name) n)))

@@ -15,26 +15,26 @@ use Rattle.fold_core.specs.Folds.{touched_by}
 use Rattle.fold_core.specs.Items.{commits_of, counted, has_item, is_of, touched}
 use Rattle.fold_core.proofs.Touches.{touched_within}
 use Rattle.hive_laws.proofs.Looks.{decide}
-use Rattle.feed_laws.specs.Rounds.{changed_keys, firsts, item_keys, times, without}
+use Rattle.feed_laws.specs.Rounds.{changed_keys, first_ids, item_keys, times, without}
 use Rattle.feed_laws.proofs.Lists.{other_key, same_key, times-append, times_without, times_without_other}
 
-once : (key : List ℕ) (xs : List (List ℕ)) → 0 < times key xs → times key (firsts xs) ≡ 1
+once : (key : List ℕ) (xs : List (List ℕ)) → 0 < times key xs → times key (first_ids xs) ≡ 1
 once key [] is = absurd (omega arith)
 once key (x ∷ xs) is = ⊎_elim
-    (λ e. subst (λ (y : List ℕ). times key (y ∷ without y (firsts xs)) ≡ 1) e (let h : times key (without key (firsts xs)) ≡ 0 = times_without key (firsts xs) in rw (same_key key) (omega arith)))
+    (λ e. subst (λ (y : List ℕ). times key (y ∷ without y (first_ids xs)) ≡ 1) e (let h : times key (without key (first_ids xs)) ≡ 0 = times_without key (first_ids xs) in rw (same_key key) (omega arith)))
     (λ other. let n : bytes_eq key x ≡ false = other_key key x other in
     let sum : 0 < 0 + times key xs = (rw n at is) in let rest : 0 < times key xs = omega arith in
-    let h : times key (without x (firsts xs)) ≡ times key (firsts xs) = times_without_other x key (firsts xs) other in
-    let k : times key (firsts xs) ≡ 1 = once key xs rest in rw n (omega arith)) (decide key x)
+    let h : times key (without x (first_ids xs)) ≡ times key (first_ids xs) = times_without_other x key (first_ids xs) other in
+    let k : times key (first_ids xs) ≡ 1 = once key xs rest in rw n (omega arith)) (decide key x)
 
-none : (key : List ℕ) (xs : List (List ℕ)) → times key xs ≡ 0 → times key (firsts xs) ≡ 0
+none : (key : List ℕ) (xs : List (List ℕ)) → times key xs ≡ 0 → times key (first_ids xs) ≡ 0
 none key [] is = refl
 none key (x ∷ xs) is = ⊎_elim
     (λ e. let y : bytes_eq key x ≡ true = (bytes_eq-Decides key x).1 e in let no_ : 1 + times key xs ≡ 0 = (rw y at is) in absurd (omega arith))
     (λ other. let n : bytes_eq key x ≡ false = other_key key x other in
     let sum : 0 + times key xs ≡ 0 = (rw n at is) in let rest : times key xs ≡ 0 = omega arith in
-    let h : times key (without x (firsts xs)) ≡ times key (firsts xs) = times_without_other x key (firsts xs) other in
-    let k : times key (firsts xs) ≡ 0 = none key xs rest in rw n (omega arith)) (decide key x)
+    let h : times key (without x (first_ids xs)) ≡ times key (first_ids xs) = times_without_other x key (first_ids xs) other in
+    let k : times key (first_ids xs) ≡ 0 = none key xs rest in rw n (omega arith)) (decide key x)
 
 -- the keys of items, and whether one of them is of the id
 abbrev keys_in : List Item → List (List ℕ)

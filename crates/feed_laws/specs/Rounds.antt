@@ -21,9 +21,9 @@ without key [] = []
 without key (k ∷ keys) = if bytes_eq key k then without key keys else k ∷ without key keys
 
 -- each key once, where it stands first
-abbrev pub firsts : List (List ℕ) → List (List ℕ)
-firsts [] = []
-firsts (k ∷ keys) = k ∷ without k (firsts keys)
+abbrev pub first_ids : List (List ℕ) → List (List ℕ)
+first_ids [] = []
+first_ids (k ∷ keys) = k ∷ without k (first_ids keys)
 
 -- the keys of a commit's ids, item by item
 abbrev pub item_keys : Stored → List (List ℕ)
@@ -31,7 +31,7 @@ item_keys c = map (λ (it : Item). (id_of it).key) c.commit.items
 
 -- the keys of the ids with an item behind commit c and up to commit told, in order of the first such item
 abbrev pub changed_keys : Catalog → ℕ → ℕ → List (List ℕ)
-changed_keys cs c told = firsts (flat_map item_keys (drop c (take told cs)))
+changed_keys cs c told = first_ids (flat_map item_keys (drop c (take told cs)))
 
 -- in how many places of a round's lists an id stands
 abbrev pub places : List ℕ → Round → ℕ

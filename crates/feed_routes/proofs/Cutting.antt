@@ -3,7 +3,7 @@ use Rattle.std.proofs.Common.{◌≡◌, ◌↔◌, ℕ, List, ◌∷◌, ◌++�
 use Rattle.std.proofs.lemmas.List.{append_cancel_left, append_cancel_right}
 use Rattle.std.proofs.lemmas.Slice.Eq.{bytes_eq-Decides}
 use Rattle.std.specs.Str.{bytes_eq}
-use Rattle.feed_routes.specs.Cuts.{IsFree}
+use Rattle.feed_routes.specs.Cuts.{IsFreeSegment}
 
 -- a test has one answer
 pub off_on : (b : Bool) → b ≡ false → b ≡ true → ⊥
@@ -18,9 +18,9 @@ IsPair P Q text = (x : List ℕ) × (y : List ℕ) × P x × Q x y × (text ≡ 
 
 -- there is no other way to cut the text behind a part without a slash
 abbrev pub IsOnlyCut : List ℕ → List ℕ → List ℕ → Type 0
-IsOnlyCut text front back = (x y : List ℕ) → IsFree 47 x → text ≡ x ++ (47 ∷ y) → (front ≡ x) × (back ≡ y)
+IsOnlyCut text front back = (x y : List ℕ) → IsFreeSegment 47 x → text ≡ x ++ (47 ∷ y) → (front ≡ x) × (back ≡ y)
 
-pub pair_is : (P : List ℕ → Type 0) (Q : List ℕ → List ℕ → Type 0) → ((x : List ℕ) → P x → IsFree 47 x)
+pub pair_is : (P : List ℕ → Type 0) (Q : List ℕ → List ℕ → Type 0) → ((x : List ℕ) → P x → IsFreeSegment 47 x)
     → (text front back : List ℕ) (is : Bool) → text ≡ front ++ (47 ∷ back) → IsOnlyCut text front back → P front → IsTrue is ↔ Q front back
     → IsTrue is ↔ IsPair P Q text
 pair_is P Q free text front back is found first p h = (
@@ -29,14 +29,14 @@ pair_is P Q free text front back is found first p h = (
       h.1 (subst (λ (x : List ℕ). Q x back) (sym parts.0) (subst (λ (y : List ℕ). Q w.0 y) (sym parts.1) w.3)),
 )
 
-pub pair_not : (P : List ℕ → Type 0) (Q : List ℕ → List ℕ → Type 0) → ((x : List ℕ) → P x → IsFree 47 x)
+pub pair_not : (P : List ℕ → Type 0) (Q : List ℕ → List ℕ → Type 0) → ((x : List ℕ) → P x → IsFreeSegment 47 x)
     → (text front back : List ℕ) (is : Bool) → IsOnlyCut text front back → (P front → ⊥) → is ≡ false
     → IsTrue is ↔ IsPair P Q text
 pair_not P Q free text front back is first not off =
     never is (IsPair P Q text) off (λ w. let parts = first w.0 w.1 (free w.0 w.2) w.4 in not (subst P (sym parts.0) w.2))
 
-pub pair_none : (P : List ℕ → Type 0) (Q : List ℕ → List ℕ → Type 0) → ((x : List ℕ) → P x → IsFree 47 x)
-    → (text : List ℕ) (is : Bool) → ((x y : List ℕ) → IsFree 47 x → text ≡ x ++ (47 ∷ y) → ⊥) → is ≡ false
+pub pair_none : (P : List ℕ → Type 0) (Q : List ℕ → List ℕ → Type 0) → ((x : List ℕ) → P x → IsFreeSegment 47 x)
+    → (text : List ℕ) (is : Bool) → ((x y : List ℕ) → IsFreeSegment 47 x → text ≡ x ++ (47 ∷ y) → ⊥) → is ≡ false
     → IsTrue is ↔ IsPair P Q text
 pair_none P Q free text is none off = never is (IsPair P Q text) off (λ w. none w.0 w.1 (free w.0 w.2) w.4)
 

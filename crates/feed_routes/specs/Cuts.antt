@@ -3,8 +3,8 @@ use Rattle.std.specs.Prelude.{◌==◌, ℕ, suc, List, not, IsTrue, length, dro
 use Rattle.std.specs.List.{before_first, list_all}
 
 -- the mark doesn't stand in the text
-abbrev pub IsFree : ℕ → List ℕ → Type 0
-IsFree mark text = IsTrue (list_all (λ b. not (b == mark)) text)
+abbrev pub IsFreeSegment : ℕ → List ℕ → Type 0
+IsFreeSegment mark text = IsTrue (list_all (λ b. not (b == mark)) text)
 
 -- what stands before the first `?`, or all where there is none
 abbrev pub target_path : List ℕ → List ℕ

@@ -1,6 +1,6 @@
 // Splitting a text.
 ghost use Rattle.std.specs.Prelude.{◌≡◌, ◌∷◌, ◌++◌, ℕ, List, IfSome, MatchOption};
-ghost use Rattle.feed_routes.specs.Cuts.{IsFree, behind_slash, first_segment, second_segment, target_path, target_query};
+ghost use Rattle.feed_routes.specs.Cuts.{IsFreeSegment, behind_slash, first_segment, second_segment, target_path, target_query};
 
 // The path and the query of a target.
 pub(crate) fn at_query(target: &str) -> (&str, &str)
@@ -37,7 +37,7 @@ pub(crate) fn second_segment(path: &str) -> &str
 // What stands before and behind the first slash.
 pub(crate) fn at_slash(text: &str) -> Option<(&str, &str)>
     ensures found { IfSome result (λ p. text.now ≡ p.0.now ++ (47 ∷ p.1.now)) }
-    ensures first { (front back : List ℕ) → IsFree 47 front → text.now ≡ front ++ (47 ∷ back)
+    ensures first { (front back : List ℕ) → IsFreeSegment 47 front → text.now ≡ front ++ (47 ∷ back)
         → MatchOption result ⊥ (λ p. (p.0.now ≡ front) × (p.1.now ≡ back)) }
 {
     text.split_once('/')

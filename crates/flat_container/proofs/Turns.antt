@@ -6,7 +6,7 @@ use Rattle.serde_json.specs.View.{items_of, view}
 use Rattle.serde_json.specs.Written.{has_float, items_have_float}
 use Rattle.serde_json.specs.declared.value.Value.{Value}
 use Rattle.pkg_meta.specs.declared.entry.Entry.{Entry}
-use Rattle.flat_container.specs.Documents.{index_object, version_data}
+use Rattle.flat_container.specs.Documents.{content_index_object, version_data}
 
 -- one version more
 pub version_turn : (vs later : List Value) (v : Value) (xs : List Entry) (x : Entry) (i : ℕ) (whole : List Data)
@@ -27,5 +27,5 @@ no_floats_in [] = refl
 no_floats_in (e ∷ es) = no_floats_in es
 
 -- an index has no float
-pub no_floats : (es : List Entry) → has_float (index_object (map version_data es)) ≡ false
+pub no_floats : (es : List Entry) → has_float (content_index_object (map version_data es)) ≡ false
 no_floats es = rw (no_floats_in es)

@@ -11,7 +11,7 @@ use Rattle.fold_core.specs.declared.doc.Body.{Body}
 use Rattle.fold_core.specs.declared.doc.Body.TheVariants.{Made, Staged as FromPublish}
 use Rattle.fold_core.specs.declared.doc.Doc.{Doc}
 use Rattle.pkg_meta.specs.declared.entry.Entry.{Entry}
-use Rattle.flat_container.specs.Names.{nupkg_name, nuspec_name}
+use Rattle.flat_container.specs.Names.{content_package_name, content_manifest_name}
 
 -- every version is served, the unlisted too
 abbrev pub keeps_all : Details → Bool
@@ -26,12 +26,12 @@ abbrev pub version_data : Entry → Data
 version_data e = string (key_in e)
 
 -- the list of versions
-abbrev pub index_object : List Data → Data
-index_object versions = object (member (codes "versions") (array (items_of versions)) no_members)
+abbrev pub content_index_object : List Data → Data
+content_index_object versions = object (member (codes "versions") (array (items_of versions)) no_members)
 
 -- the list of the versions' keys, by rising precedence
 unfoldable pub index_text : List Entry → List ℕ
-index_text es = compact_text (index_object (map version_data es))
+index_text es = compact_text (content_index_object (map version_data es))
 
 -- the id's index
 abbrev pub index_doc : List ℕ → List Entry → Doc
@@ -43,11 +43,11 @@ brought nuspec e = FromPublish e.details.origin_number e.details.origin_place nu
 
 -- the package of a version
 abbrev pub package_doc : List ℕ → Entry → Doc
-package_doc key e = record { name = nupkg_name key (key_in e); body = brought false e }
+package_doc key e = record { name = content_package_name key (key_in e); body = brought false e }
 
 -- the manifest of a version
 abbrev pub manifest_doc : List ℕ → Entry → Doc
-manifest_doc key e = record { name = nuspec_name key (key_in e); body = brought true e }
+manifest_doc key e = record { name = content_manifest_name key (key_in e); body = brought true e }
 
 -- both of them
 abbrev pub file_docs : List ℕ → Entry → List Doc

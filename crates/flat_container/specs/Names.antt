@@ -3,9 +3,9 @@ use Rattle.std.specs.Prelude.{ℕ, List, ◌++◌, codes}
 use Rattle.fold_core.specs.Docs.{name_of}
 
 -- the package of a version, by the keys of the id and the version
-abbrev pub nupkg_name : List ℕ → List ℕ → List ℕ
-nupkg_name key version = name_of key (version ++ (codes "/" ++ (key ++ (codes "." ++ (version ++ codes ".nupkg")))))
+abbrev pub content_package_name : List ℕ → List ℕ → List ℕ
+content_package_name key version = name_of key (version ++ (codes "/" ++ (key ++ (codes "." ++ (version ++ codes ".nupkg")))))
 
 -- the manifest of a version
-abbrev pub nuspec_name : List ℕ → List ℕ → List ℕ
-nuspec_name key version = name_of key (version ++ (codes "/" ++ (key ++ codes ".nuspec")))
+abbrev pub content_manifest_name : List ℕ → List ℕ → List ℕ
+content_manifest_name key version = name_of key (version ++ (codes "/" ++ (key ++ codes ".nuspec")))

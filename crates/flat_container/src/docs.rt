@@ -1,22 +1,22 @@
 // The package and the manifest of each version, and all documents of an id.
 ghost use Rattle.std.specs.Prelude.{◌≡◌, ◌++◌, IfOk, OnOk};
 ghost use Rattle.flat_container.specs.Documents.{brought, content_docs, file_docs, manifest_doc, package_doc};
-ghost use Rattle.flat_container.specs.Names.{nupkg_name, nuspec_name};
+ghost use Rattle.flat_container.specs.Names.{content_package_name, content_manifest_name};
 ghost use Rattle.std.specs.Prelude.{ℕ, List};
 
 use crate::index::{index_doc, key_in};
 use fold_core::{Body, Doc, Entry, Many, NoMemory, Text};
 use std::alloc::Global;
 
-fn nupkg_name(alloc: Global, key: &str, version: &str) -> Result<Text, NoMemory>
-    ensures { IfOk result (λ name. name ≡ nupkg_name key.now version.now) }
+fn content_package_name(alloc: Global, key: &str, version: &str) -> Result<Text, NoMemory>
+    ensures { IfOk result (λ name. name ≡ content_package_name key.now version.now) }
 {
     let name = format!(in alloc; "d/{key}/{version}/{key}.{version}.nupkg")?;
     Ok(Text::of(name))
 }
 
-fn nuspec_name(alloc: Global, key: &str, version: &str) -> Result<Text, NoMemory>
-    ensures { IfOk result (λ name. name ≡ nuspec_name key.now version.now) }
+fn content_manifest_name(alloc: Global, key: &str, version: &str) -> Result<Text, NoMemory>
+    ensures { IfOk result (λ name. name ≡ content_manifest_name key.now version.now) }
 {
     let name = format!(in alloc; "d/{key}/{version}/{key}.nuspec")?;
     Ok(Text::of(name))
@@ -37,7 +37,7 @@ fn package_doc(alloc: Global, key: &str, entry: &Entry) -> Result<Doc, NoMemory>
     ensures { IfOk result (λ doc. doc ≡ package_doc key.now entry.now) }
 {
     let version = key_in(alloc, entry)?;
-    let name = nupkg_name(alloc, key, version.as_str())?;
+    let name = content_package_name(alloc, key, version.as_str())?;
     let body = brought(entry, false);
     Ok(Doc { name, body })
 }
@@ -46,7 +46,7 @@ fn manifest_doc(alloc: Global, key: &str, entry: &Entry) -> Result<Doc, NoMemory
     ensures { IfOk result (λ doc. doc ≡ manifest_doc key.now entry.now) }
 {
     let version = key_in(alloc, entry)?;
-    let name = nuspec_name(alloc, key, version.as_str())?;
+    let name = content_manifest_name(alloc, key, version.as_str())?;
     let body = brought(entry, true);
     Ok(Doc { name, body })
 }

@@ -2,7 +2,7 @@
 ghost use Rattle.std.specs.Prelude.{◌≡◌, IfOk, map};
 ghost use Rattle.serde_json.specs.View.{view};
 ghost use Rattle.fold_core.specs.Docs.{index_name};
-ghost use Rattle.flat_container.specs.Documents.{index_doc, index_object, index_text, key_in, version_data};
+ghost use Rattle.flat_container.specs.Documents.{index_doc, content_index_object, index_text, key_in, version_data};
 
 use fold_core::{Body, Bytes, Doc, Entry, NoMemory, Text};
 use serde_json::{Value, json};
@@ -31,8 +31,8 @@ fn version_values(alloc: Global, entries: &[Entry]) -> Result<Vec<Value>, NoMemo
     Ok(values)
 }
 
-fn index_object(alloc: Global, versions: Vec<Value>) -> Result<Value, AllocError>
-    ensures { IfOk result (λ v. view v ≡ index_object (map view versions.items)) }
+fn content_index_object(alloc: Global, versions: Vec<Value>) -> Result<Value, AllocError>
+    ensures { IfOk result (λ v. view v ≡ content_index_object (map view versions.items)) }
 {
     json!(in alloc; {"versions": versions})
 }
@@ -42,7 +42,7 @@ fn index_bytes(alloc: Global, entries: &[Entry]) -> Result<Bytes, NoMemory>
     ensures { IfOk result (λ bytes. bytes ≡ index_text entries.now) }
 {
     let versions = version_values(alloc, entries)?;
-    let value = index_object(alloc, versions)?;
+    let value = content_index_object(alloc, versions)?;
     let bytes = value.to_vec(alloc)?;
     Ok(Bytes::of(bytes))
 }

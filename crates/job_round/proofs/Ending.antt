@@ -15,7 +15,7 @@ use Rattle.cursor_doc.specs.Cursor.{cursor_name}
 use Rattle.fold_core.specs.Folds.{Fold}
 use Rattle.job_round.specs.Plans.{PassesMade, RunsPasses, passes_plan}
 use Rattle.job_round.specs.Rounds.{IsEndStop, RunsLast, RunsTaking, cursor_put}
-use Rattle.job_round.specs.Stops.{HaltsAt, IsDamage, catalog_stop_of}
+use Rattle.job_round.specs.Stops.{JobHaltsAt, IsDamage, catalog_stop_of}
 use Rattle.job_round.specs.declared.stop.Stop.{Stop}
 use Rattle.job_round.specs.declared.stop.Stop.TheVariants.{CatalogFault, HiveFault, CatalogDamaged, HiveDamaged, Memory}
 use Rattle.job_round.proofs.Halting.{halts_then}
@@ -27,7 +27,7 @@ module _ (f : Fold) (Q : Catalog → Type 0) (c target stamp : ℕ) (keys : List
 
   last_stopped : (stop : Stop) → PassesMade f Q c target keys a b → RunsLast {A = Unit {0}} (cursor_put target stamp) b e (Err stop) → RunsTaking {A = Unit {0}} f Q c target stamp keys a e (Err stop)
   last_stopped stop (passes, same, all, made) (inl halts) =
-      inr (inr (passes, same, all, inl (subst (λ (l : List Act). HaltsAt l stop a e) (append-nil (passes_plan passes)) (halts_then (passes_plan passes) [] stop a b e made halts))))
+      inr (inr (passes, same, all, inl (subst (λ (l : List Act). JobHaltsAt l stop a e) (append-nil (passes_plan passes)) (halts_then (passes_plan passes) [] stop a b e made halts))))
   last_stopped stop (passes, same, all, made) (inr (error, told, stops)) =
       inr (inr (passes, same, all, inr (error, told, stops_behind (passes_plan passes) (cursor_put target stamp ∷ []) error a b e made stops)))
 
@@ -37,7 +37,7 @@ module _ (f : Fold) (Q : Catalog → Type 0) (c target stamp : ℕ) (keys : List
   pub taking_cut : {A : Type 0} (stop : Stop) (r : Result A Stop) → r ≡ Err stop → RunsPasses {A = Unit {0}} f Q c target keys a e (Err stop) → RunsTaking f Q c target stamp keys a e r
   taking_cut {A} stop r told halts = subst (λ (x : Result A Stop). RunsTaking f Q c target stamp keys a e x) (sym told) (inr (inl halts))
 
-  pub taking_unbegun : {A : Type 0} (stop : Stop) (r : Result A Stop) → r ≡ Err stop → HaltsAt [] stop a e → RunsTaking f Q c target stamp keys a e r
+  pub taking_unbegun : {A : Type 0} (stop : Stop) (r : Result A Stop) → r ≡ Err stop → JobHaltsAt [] stop a e → RunsTaking f Q c target stamp keys a e r
   taking_unbegun {A} stop r told halts = subst (λ (x : Result A Stop). RunsTaking f Q c target stamp keys a e x) (sym told) (inl halts)
 
 pub end_read : {B : Type 0} (o : Opened B) (s : Seen) (cursor : ℕ) (error : ReadErr) → ((m : Area) → s.held ≡ Some m → IfDamagedBy error (IsUnsettled m o)) → IsEndStop o s cursor (catalog_stop_of error)

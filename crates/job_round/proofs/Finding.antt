@@ -5,7 +5,7 @@ use Rattle.blob_store.specs.Area.{Area}
 use Rattle.blob_store.specs.Events.{Act}
 use Rattle.blob_store.specs.Plans.{Makes}
 use Rattle.blob_store.specs.Seen.{Seen}
-use Rattle.job_round.specs.Stops.{HaltsAt, IsDamage, IsOfHive}
+use Rattle.job_round.specs.Stops.{JobHaltsAt, IsDamage, IsOfHive}
 use Rattle.job_round.specs.declared.stop.Stop.{Stop}
 use Rattle.job_round.specs.declared.stop.Stop.TheVariants.{CatalogFault, HiveFault, CatalogDamaged, HiveDamaged, Memory}
 use Rattle.job_round.proofs.Halting.{halts_behind}
@@ -18,7 +18,7 @@ pub found_as : (held : Option Area) (name : List ℕ) (found other : Option (Lis
 found_as None name found other same is = tt
 found_as (Some m) name found other same is = sym same ∙ is
 
-pub damage_halts : (P : List ℕ → Type 0) (plan : List Act) (stop : Stop) (a b : Seen) → IsDamage P stop → Makes plan a b → HaltsAt plan stop a b
+pub damage_halts : (P : List ℕ → Type 0) (plan : List Act) (stop : Stop) (a b : Seen) → IsDamage P stop → Makes plan a b → JobHaltsAt plan stop a b
 damage_halts P plan CatalogFault a b damage made = absurd damage
 damage_halts P plan HiveFault a b damage made = absurd damage
 damage_halts P plan (CatalogDamaged name) a b damage made = absurd damage

@@ -20,8 +20,8 @@ use Rattle.fold_core.specs.Docs.{part}
 use Rattle.fold_core.specs.declared.doc.Body.TheVariants.{Made, Staged as FromPublish}
 use Rattle.id_pass.specs.declared.call.Call.{Call}
 use Rattle.id_pass.specs.declared.call.Call.TheVariants.{Put, Remove}
-use Rattle.job_round.specs.Made.{AreMade, AreSomeMade, IsBody, IsMade, RunsCalls}
-use Rattle.job_round.specs.Stops.{HaltsAt, RunsOne}
+use Rattle.job_round.specs.Made.{AreMade, AreSomeMade, IsBody, IsMadeCall, RunsCalls}
+use Rattle.job_round.specs.Stops.{JobHaltsAt, RunsOne}
 use Rattle.job_round.specs.declared.stop.Stop.{Stop}
 use Rattle.job_round.specs.declared.stop.Stop.TheVariants.{CatalogFault}
 use Rattle.job_round.proofs.Bodies.{brought_of}
@@ -29,7 +29,7 @@ use Rattle.job_round.proofs.Halting.{halts_of, halts_then}
 use Rattle.job_round.proofs.Staying.{quiet_ok, stays_next, stays_on, stays_still, stays_well, stopped, well, went_well}
 
 module _ (Q R : Catalog → Type 0) (more : (cs : Catalog) → R cs → Q cs) where
-  pub weaker_one : (call : Call) (c : StoreCall) → IsMade Q call c → IsMade R call c
+  pub weaker_one : (call : Call) (c : StoreCall) → IsMadeCall Q call c → IsMadeCall R call c
   weaker_one (Put name (Made bytes)) c is = is
   weaker_one (Put name (FromPublish number place nuspec)) c (bytes, is, body) = (bytes, is, λ cs meant. body cs (more cs meant))
   weaker_one (Remove name) c is = is
@@ -64,9 +64,9 @@ module _ (Q : Catalog → Type 0) where
   some_front (x ∷ xs) ys (u ∷ us) some = (some.0, some_front xs ys us some.1)
 
   -- one call
-  pub calls_one : {A : Type 0} (call : Call) (c : StoreCall) (a b : Seen) (r : Result A Stop) → IsMade Q call c → RunsOne (Change c) a b r → RunsCalls Q (call ∷ []) a b r
+  pub calls_one : {A : Type 0} (call : Call) (c : StoreCall) (a b : Seen) (r : Result A Stop) → IsMadeCall Q call c → RunsOne (Change c) a b r → RunsCalls Q (call ∷ []) a b r
   calls_one call c a b (Ok x) is runs = (c ∷ [], (is, tt), runs)
-  calls_one call c a b (Err stop) is (error, told, stops) = (c ∷ [], (is, tt), subst (λ (s : Stop). HaltsAt (Change c ∷ []) s a b) (sym told) (halts_of (Change c ∷ []) error a b stops))
+  calls_one call c a b (Err stop) is (error, told, stops) = (c ∷ [], (is, tt), subst (λ (s : Stop). JobHaltsAt (Change c ∷ []) s a b) (sym told) (halts_of (Change c ∷ []) error a b stops))
 
 -- calls behind others
 pub calls_then : {A : Type 0} (Q : Catalog → Type 0) (done ys : List Call) (made : List StoreCall) (a b c : Seen) (r : Result A Stop) → AreMade Q done made → Makes (map Change made) a b
@@ -74,7 +74,7 @@ pub calls_then : {A : Type 0} (Q : Catalog → Type 0) (done ys : List Call) (ma
 calls_then Q done ys made a b c (Ok x) all first (more, these, second) =
     (made ++ more, made_joined Q done ys made more all these, subst (λ (l : List Act). Makes l a c) (sym (map-append Change made more)) (makes_then (map Change made) (map Change more) a b c first second))
 calls_then Q done ys made a b c (Err stop) all first (more, some, second) =
-    (made ++ more, some_joined Q done ys made more all some, subst (λ (l : List Act). HaltsAt l stop a c) (sym (map-append Change made more)) (halts_then (map Change made) (map Change more) stop a b c first second))
+    (made ++ more, some_joined Q done ys made more all some, subst (λ (l : List Act). JobHaltsAt l stop a c) (sym (map-append Change made more)) (halts_then (map Change made) (map Change more) stop a b c first second))
 
 -- what the catalog read is the body
 pub read_body : {B : Type 0} (o : Opened B) (s : Seen) (number place : ℕ) (nuspec : Bool) (bytes : List ℕ)
@@ -133,7 +133,7 @@ module _ {B : Type 0} (o mid n : Opened B) (s t u : Seen) (old now new : Seen) (
         subst (λ (x : Result A Stop). RunsCalls (IsOpenFor o s) whole old new x) (sym told) (
           so_far.made ++ more,
           subst (λ (l : List Call). AreSomeMade (IsOpenFor o s) l (so_far.made ++ more)) (sym same) first,
-          subst (λ (l : List Act). HaltsAt l stop old new) (sym (map-append Change so_far.made more)) (halts_then (map Change so_far.made) (map Change more) stop old now new so_far.ran halts),
+          subst (λ (l : List Act). JobHaltsAt l stop old new) (sym (map-append Change so_far.made more)) (halts_then (map Change so_far.made) (map Change more) stop old now new so_far.ran halts),
         )
 
     pub stays_stopped : {A T : Type 0} (stop : Stop) (r : Result A Stop) → r ≡ Err stop → StaysOpen mid n t u (IsErrOf (stopped T stop) CatalogFault) → StaysOpen o n s u (IsErrOf r CatalogFault)

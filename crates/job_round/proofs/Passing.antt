@@ -20,8 +20,8 @@ use Rattle.job_round.specs.Ids.{key_of_id}
 use Rattle.job_round.specs.Items.{items_behind}
 use Rattle.job_round.specs.Made.{RunsCalls}
 use Rattle.job_round.specs.Plans.{AreWholePasses, IsPartPass, IsPlanned, IsWholePass, Pass, PassesHalt, PassesMade, RunsPass, RunsPasses, TakesUp, held_after, keys_in, pass_plan, passes_plan}
-use Rattle.job_round.specs.States.{IsStored, at_in}
-use Rattle.job_round.specs.Stops.{HaltsAt}
+use Rattle.job_round.specs.States.{IsStoredState, at_in}
+use Rattle.job_round.specs.Stops.{JobHaltsAt}
 use Rattle.job_round.specs.declared.ids.IdRows.{IdRows}
 use Rattle.job_round.specs.declared.stop.Stop.{Stop}
 use Rattle.job_round.proofs.Halting.{halts_then}
@@ -38,7 +38,7 @@ held_none (Some m) = refl
 
 module _ (f : Fold) (c target : ℕ) (key : List ℕ) where
   -- nothing was changed
-  pub pass_lost : {A : Type 0} (Q : Catalog → Type 0) (stop : Stop) (r : Result A Stop) (a b : Seen) → r ≡ Err stop → HaltsAt (Get (state_name key) ∷ []) stop a b → RunsPass f Q c target key a b r
+  pub pass_lost : {A : Type 0} (Q : Catalog → Type 0) (stop : Stop) (r : Result A Stop) (a b : Seen) → r ≡ Err stop → JobHaltsAt (Get (state_name key) ∷ []) stop a b → RunsPass f Q c target key a b r
   pass_lost {A} Q stop r a b is halts = subst (λ (x : Result A Stop). RunsPass f Q c target key a b x) (sym is)
       (record { key = key; stored = None; items = []; calls = []; made = [] }, refl, inl refl, halts)
 
@@ -47,7 +47,7 @@ module _ (f : Fold) (c target : ℕ) (key : List ℕ) where
     pass_of made = record { key = key; stored = stored; items = items; calls = calls; made = made }
 
     -- the calls were made
-    pub pass_ran : {A : Type 0} (r : Result A Stop) (a b e : Seen) → IfSome a.held (λ m. IsStored key target (get m (state_name key)) stored)
+    pub pass_ran : {A : Type 0} (r : Result A Stop) (a b e : Seen) → IfSome a.held (λ m. IsStoredState key target (get m (state_name key)) stored)
         → ((cs : Catalog) → R cs → items ≡ items_behind c (at_in stored) cs key) → ((made : List StoreCall) → IsPlanned f target (pass_of made))
         → Makes (Get (state_name key) ∷ []) a b → RunsCalls Q calls b e r → RunsPass f R c target key a e r
     pass_ran (Ok x) a b e found these planned got (made, all, runs) = (

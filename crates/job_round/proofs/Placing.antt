@@ -24,8 +24,8 @@ use Rattle.catalog_core.specs.Opened.{IsOpenFor, IsUnsettled, Opened}
 use Rattle.id_pass.specs.Placing.{all_as_placed, as_placed}
 use Rattle.id_pass.specs.declared.placed.Placed.{Placed as Given}
 use Rattle.catalog_rows.specs.Last.{row_of}
-use Rattle.job_round.specs.Items.{AreOf, IsLost, is_behind}
-use Rattle.job_round.specs.Stops.{IsOfCatalog, catalog_stop_of}
+use Rattle.job_round.specs.Items.{AreOf, IsLostBlob, is_behind}
+use Rattle.job_round.specs.Stops.{IsStopOfCatalog, catalog_stop_of}
 use Rattle.job_round.specs.declared.stop.Stop.{Stop}
 use Rattle.job_round.specs.declared.stop.Stop.TheVariants.{CatalogFault}
 use Rattle.job_round.proofs.Staying.{went_well}
@@ -59,11 +59,11 @@ gone_of (the.Gone i v) gone = refl
 -- a leaf that wasn't read
 pub leaf_lost : {B : Type 0} (o n : Opened B) (s t : Seen) (number place : ℕ) (error : ReadErr) (stop : Stop) → stop ≡ catalog_stop_of error
     → ((m now : Area) → s.held ≡ Some m → t.held ≡ Some now → IfDamagedBy error (λ name. IsUnsettled m o name ⊎ ((name ≡ leaf_name number place) × IfSome (row_with number place n.kept.rows) (HasNoLeaf now n.base))))
-    → o.settled ≡ true → t.held ≡ s.held → IsOfCatalog (IsLost n t) stop
-leaf_lost o n s t number place error stop told damaged settled same = subst (IsOfCatalog (IsLost n t)) (sym told) (by error damaged)
+    → o.settled ≡ true → t.held ≡ s.held → IsStopOfCatalog (IsLostBlob n t) stop
+leaf_lost o n s t number place error stop told damaged settled same = subst (IsStopOfCatalog (IsLostBlob n t)) (sym told) (by error damaged)
   where
     by : (e : ReadErr) → ((m now : Area) → s.held ≡ Some m → t.held ≡ Some now → IfDamagedBy e (λ name. IsUnsettled m o name ⊎ ((name ≡ leaf_name number place) × IfSome (row_with number place n.kept.rows) (HasNoLeaf now n.base))))
-        → IsOfCatalog (IsLost n t) (catalog_stop_of e)
+        → IsStopOfCatalog (IsLostBlob n t) (catalog_stop_of e)
     by (reading.Damaged name) lost = λ m is.
         ⊎_elim (λ here. let no : ⊥ = cc in absurd no) (λ there. inl (number, place, there.0, there.1)) (lost m m (sym same ∙ is) is)
     by reading.Fault lost = tt

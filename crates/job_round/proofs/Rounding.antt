@@ -28,7 +28,7 @@ use Rattle.job_round.specs.Cursors.{IsCursor, IsNoCursor}
 use Rattle.job_round.specs.Ids.{by_id, key_of_id}
 use Rattle.job_round.specs.Plans.{AreTold, AreWholePasses, IsOfPasses, IsPartPass, Pass, held_after, keys_in, pass_plan, passes_plan}
 use Rattle.job_round.specs.Rounds.{IsEndStop, IsTask, RunsRound, RunsTaking, cursor_put}
-use Rattle.job_round.specs.Stops.{HaltsAt, IfDamaged, IsElse, IsOfHive, catalog_stop_of}
+use Rattle.job_round.specs.Stops.{JobHaltsAt, IfDamaged, IsElse, IsOfHive, catalog_stop_of}
 use Rattle.job_round.specs.declared.stop.Stop.{Stop}
 use Rattle.job_round.specs.declared.stop.Stop.TheVariants.{CatalogFault, HiveFault, CatalogDamaged, HiveDamaged, Memory}
 use Rattle.job_round.proofs.Halting.{halts_behind, halts_then}
@@ -39,7 +39,7 @@ abbrev pub rows_read : List Row → Result (List Row) ReadErr
 rows_read rows = Ok rows
 
 -- it stopped at the cursor, or before any id
-pub round_early : (f : Fold) (Q : Catalog → Type 0) (stop : Stop) (r : Result RoundOut Stop) (a b : Seen) → r ≡ Err stop → HaltsAt (Get cursor_name ∷ []) stop a b → RunsRound f Q a b r
+pub round_early : (f : Fold) (Q : Catalog → Type 0) (stop : Stop) (r : Result RoundOut Stop) (a b : Seen) → r ≡ Err stop → JobHaltsAt (Get cursor_name ∷ []) stop a b → RunsRound f Q a b r
 round_early f Q stop r a b told halts = subst (λ (x : Result RoundOut Stop). RunsRound f Q a b x) (sym told) (inl halts)
 
 pub else_of_end : {B : Type 0} (o : Opened B) (s : Seen) (cursor : ℕ) (stop : Stop) → IsEndStop o s cursor stop → IsElse stop

@@ -27,8 +27,8 @@ use Rattle.job_round.specs.Ids.{key_of_id}
 use Rattle.job_round.specs.Items.{AreOf, is_behind, items_after, items_behind, placed_after}
 use Rattle.job_round.specs.Made.{RunsCalls}
 use Rattle.job_round.specs.Plans.{AreTold, IsStateLost, IsTold, PassesMade, RunsPass}
-use Rattle.job_round.specs.States.{IsNoState, IsStored, at_in}
-use Rattle.job_round.specs.Stops.{HaltsAt, IfDamaged, IsOfHive}
+use Rattle.job_round.specs.States.{IsNoState, IsStoredState, at_in}
+use Rattle.job_round.specs.Stops.{JobHaltsAt, IfDamaged, IsOfHive}
 use Rattle.job_round.specs.declared.ids.IdRows.{IdRows}
 use Rattle.job_round.specs.declared.stop.Stop.{Stop}
 use Rattle.job_round.specs.declared.stop.Stop.TheVariants.{CatalogFault, HiveFault, CatalogDamaged, HiveDamaged, Memory}
@@ -71,13 +71,13 @@ module _ {B : Type 0} (keeps : Keeps) (makes : MakesDocs) (o : Opened B) (s : Se
   abbrev Q : Catalog → Type 0
   Q cs = IsTold c id (IsOpenFor o s) cs
 
-  pub told_lost : {A : Type 0} (stop : Stop) (r : Result A Stop) (a b : Seen) → r ≡ Err stop → HaltsAt (Get (state_name key) ∷ []) stop a b → RunsPass (fold_of keeps makes o.base) Q c target id.key a b r
+  pub told_lost : {A : Type 0} (stop : Stop) (r : Result A Stop) (a b : Seen) → r ≡ Err stop → JobHaltsAt (Get (state_name key) ∷ []) stop a b → RunsPass (fold_of keeps makes o.base) Q c target id.key a b r
   told_lost stop r a b told halts = subst (λ (k : List ℕ). RunsPass (fold_of keeps makes o.base) Q c target k a b r) named (pass_lost (fold_of keeps makes o.base) c target key Q stop r a b told halts)
 
   module _ (stored : Option StateDoc) (given : List Given) (plan : List Call) where
     pub told_ran : {A : Type 0} (mid : Opened B) (t : Seen) (at : ℕ) (rows : List Row) (base : List ℕ) (old : Option StateDoc) (these : List Placed) (r : Result A Stop) (a b e : Seen)
         → StaysOpen o mid s t (IsErrOf went_well CatalogFault)
-        → IfSome a.held (λ m. IsStored key target (get m (state_name key)) stored)
+        → IfSome a.held (λ m. IsStoredState key target (get m (state_name key)) stored)
         → at ≡ at_in stored → rows ≡ id.rows
         → ((cs : Catalog) (xs : List Placed) → IsOpenFor o s cs → AreOf cs xs → rows ≡ map row_of xs → all_as_placed given ≡ filter (is_behind at) xs)
         → base ≡ mid.base → old ≡ stored → these ≡ all_as_placed given

@@ -22,10 +22,10 @@ use Rattle.id_pass.specs.declared.error.RoundErr.{RoundErr}
 use Rattle.id_pass.specs.declared.error.RoundErr.TheVariants as told
 use Rattle.id_pass.specs.declared.error.RoundOut.{RoundOut}
 use Rattle.id_pass.specs.declared.error.RoundOut.TheVariants.{Done, Idle}
-use Rattle.job_round.specs.Answers.{IfDamagedText, IfDone, IfIdle, IsDamagedBlob, IsLostInCatalog, IsLostInHive, IsNoNumber, IsToldAs, in_hive, number_of}
+use Rattle.job_round.specs.Answers.{IfDamagedText, IfDone, IfIdle, IsDamagedBlob, IsLostInCatalog, IsLostInHive, IsNoNumber, IsStopTold, in_hive, told_number}
 use Rattle.job_round.specs.Cursors.{IsCursor, IsNoCursor}
 use Rattle.job_round.specs.Rounds.{EndsAt, EndsTo, IsStopOf, RoundHalts, Rounds, RunsRound, cursor_put, round_err_of, round_plan}
-use Rattle.job_round.specs.Stops.{HaltsAt, IfDamaged, IsOfHive, hive_stop_of}
+use Rattle.job_round.specs.Stops.{JobHaltsAt, IfDamaged, IsOfHive, hive_stop_of}
 use Rattle.job_round.specs.declared.stop.Stop.{Stop}
 use Rattle.job_round.specs.declared.stop.Stop.TheVariants.{CatalogFault, HiveFault, CatalogDamaged, HiveDamaged, Memory}
 use Rattle.job_round.proofs.Staying.{stopped}
@@ -40,7 +40,7 @@ abbrev pub settled_as : RoundOut → Result RoundOut RoundErr
 settled_as out = Ok out
 
 -- a stop, as it is told
-pub ends_of : (hive : HiveName) (stop : Stop) (error : RoundErr) (plan : List Act) (a b : Seen) → IsToldAs hive stop error → HaltsAt plan stop a b → EndsAt plan error a b
+pub ends_of : (hive : HiveName) (stop : Stop) (error : RoundErr) (plan : List Act) (a b : Seen) → IsStopTold hive stop error → JobHaltsAt plan stop a b → EndsAt plan error a b
 ends_of hive CatalogFault error plan a b is halts = subst (λ (e : RoundErr). EndsAt plan e a b) (sym is) halts
 ends_of hive HiveFault error plan a b is halts = subst (λ (e : RoundErr). EndsAt plan e a b) (sym is) halts
 ends_of hive (CatalogDamaged name) error plan a b (inl is) halts = subst (λ (e : RoundErr). EndsAt plan e a b) (sym is) halts
@@ -49,10 +49,10 @@ ends_of hive (HiveDamaged name) error plan a b (inl is) halts = subst (λ (e : R
 ends_of hive (HiveDamaged name) error plan a b (inr is) halts = subst (λ (e : RoundErr). EndsAt plan e a b) (sym is) (inr halts)
 ends_of hive Memory error plan a b is halts = subst (λ (e : RoundErr). EndsAt plan e a b) (sym is) halts
 
-why_of : (hive : HiveName) (stop : Stop) (error : RoundErr) → IsToldAs hive stop error → (e : BlobErr) → IsStopOf stop e → error ≡ round_err_of e
-why_of hive stop error is e same = by e (subst (λ (s : Stop). IsToldAs hive s error) same is)
+why_of : (hive : HiveName) (stop : Stop) (error : RoundErr) → IsStopTold hive stop error → (e : BlobErr) → IsStopOf stop e → error ≡ round_err_of e
+why_of hive stop error is e same = by e (subst (λ (s : Stop). IsStopTold hive s error) same is)
   where
-    by : (x : BlobErr) → IsToldAs hive (hive_stop_of x) error → error ≡ round_err_of x
+    by : (x : BlobErr) → IsStopTold hive (hive_stop_of x) error → error ≡ round_err_of x
     by blob.Failed here = here
     by blob.Memory here = here
 
@@ -71,8 +71,8 @@ module _ (f : Fold) (Q : Catalog → Type 0) (a b : Seen) (H : List Act → Type
   halts_fold (inr (inr (c, target, stamp, passes, task, all, inl halts))) = first _ halts
   halts_fold (inr (inr (c, target, stamp, passes, task, all, inr (error, why, stops)))) = second _ error why stops
 
-pub rounds_err : (f : Fold) (Q : Catalog → Type 0) (hive : HiveName) (stop : Stop) (error : RoundErr) (a b : Seen) → IsToldAs hive stop error → RunsRound f Q a b (Err stop) → Rounds f Q a b (Err error)
-rounds_err f Q hive stop error a b is halts = halts_map f Q a b (λ plan. HaltsAt plan stop a b) (λ plan. EndsAt plan error a b) (IsStopOf stop) (λ e. error ≡ round_err_of e)
+pub rounds_err : (f : Fold) (Q : Catalog → Type 0) (hive : HiveName) (stop : Stop) (error : RoundErr) (a b : Seen) → IsStopTold hive stop error → RunsRound f Q a b (Err stop) → Rounds f Q a b (Err error)
+rounds_err f Q hive stop error a b is halts = halts_map f Q a b (λ plan. JobHaltsAt plan stop a b) (λ plan. EndsAt plan error a b) (IsStopOf stop) (λ e. error ≡ round_err_of e)
     (λ plan. ends_of hive stop error plan a b is) (why_of hive stop error is) halts
 
 pub rounds_ok : (f : Fold) (Q : Catalog → Type 0) (out : RoundOut) (a b : Seen) → RunsRound f Q a b (Ok out) → Rounds f Q a b (Ok out)
@@ -104,7 +104,7 @@ round_counts f Q a b (Err error) halts = halts_fold f Q a b (λ plan. EndsAt pla
     (λ plan. ends_counts {A = RoundOut} plan error a b) (λ plan e. why_counts {A = RoundOut} plan error a b e) halts
 
 -- the numbers
-pub round_target : (f : Fold) (Q : Catalog → Type 0) (a b : Seen) (r : Result RoundOut RoundErr) → Rounds f Q a b r → (cs : Catalog) → Q cs → IfOk r (λ out. number_of out ≡ length cs)
+pub round_target : (f : Fold) (Q : Catalog → Type 0) (a b : Seen) (r : Result RoundOut RoundErr) → Rounds f Q a b r → (cs : Catalog) → Q cs → IfOk r (λ out. told_number out ≡ length cs)
 round_target f Q a b (Ok (Done n)) (c, stamp, passes, task, all, made) cs meant = task.ends cs meant
 round_target f Q a b (Ok (Idle n)) (none, made) cs meant = none.last cs meant
 round_target f Q a b (Err error) halts cs meant = tt
@@ -129,7 +129,7 @@ round_done f Q a b (Ok (Idle n)) runs cs meant = tt
 round_done f Q a b (Err error) halts cs meant = tt
 
 -- why a blob is told as damaged
-pub damaged_text : {B : Type 0} (o n : Opened B) (s t : Seen) (held : Option Area) (hive : HiveName) (stop : Stop) (error : RoundErr) → IsToldAs hive stop error
+pub damaged_text : {B : Type 0} (o n : Opened B) (s t : Seen) (held : Option Area) (hive : HiveName) (stop : Stop) (error : RoundErr) → IsStopTold hive stop error
     → IfDamaged (IsLostInCatalog o n s t) (IsLostInHive o s held) stop → IfDamagedText error (IsDamagedBlob o n s t held)
 damaged_text o n s t held hive CatalogFault error is lost = subst (λ (e : RoundErr). IfDamagedText e (IsDamagedBlob o n s t held)) (sym is) tt
 damaged_text o n s t held hive HiveFault error is lost = subst (λ (e : RoundErr). IfDamagedText e (IsDamagedBlob o n s t held)) (sym is) tt
@@ -139,7 +139,7 @@ damaged_text o n s t held hive (HiveDamaged name) error (inl is) lost = subst (�
 damaged_text o n s t held hive (HiveDamaged name) error (inr is) lost = subst (λ (e : RoundErr). IfDamagedText e (IsDamagedBlob o n s t held)) (sym is) tt
 damaged_text o n s t held hive Memory error is lost = subst (λ (e : RoundErr). IfDamagedText e (IsDamagedBlob o n s t held)) (sym is) tt
 
-catalog_fault : (hive : HiveName) (stop : Stop) (error : RoundErr) → IsToldAs hive stop error → error ≡ told.CatalogFault → stop ≡ CatalogFault
+catalog_fault : (hive : HiveName) (stop : Stop) (error : RoundErr) → IsStopTold hive stop error → error ≡ told.CatalogFault → stop ≡ CatalogFault
 catalog_fault hive CatalogFault error is same = refl
 catalog_fault hive HiveFault error is same = cc
 catalog_fault hive (CatalogDamaged name) error (inl is) same = cc
@@ -148,10 +148,10 @@ catalog_fault hive (HiveDamaged name) error (inl is) same = cc
 catalog_fault hive (HiveDamaged name) error (inr is) same = cc
 catalog_fault hive Memory error is same = cc
 
-to_fault : (hive : HiveName) (stop : Stop) (error : RoundErr) → IsToldAs hive stop error → stop ≡ CatalogFault → error ≡ told.CatalogFault
-to_fault hive stop error is same = subst (λ (s : Stop). IsToldAs hive s error) same is
+to_fault : (hive : HiveName) (stop : Stop) (error : RoundErr) → IsStopTold hive stop error → stop ≡ CatalogFault → error ≡ told.CatalogFault
+to_fault hive stop error is same = subst (λ (s : Stop). IsStopTold hive s error) same is
 
-pub stays_err : {B : Type 0} (o n : Opened B) (s t : Seen) (hive : HiveName) (stop : Stop) (error : RoundErr) → IsToldAs hive stop error → StaysOpen o n s t (IsErrOf (stopped RoundOut stop) CatalogFault)
+pub stays_err : {B : Type 0} (o n : Opened B) (s t : Seen) (hive : HiveName) (stop : Stop) (error : RoundErr) → IsStopTold hive stop error → StaysOpen o n s t (IsErrOf (stopped RoundOut stop) CatalogFault)
     → StaysOpen o n s t (IsErrOf (refused RoundOut error) told.CatalogFault)
 stays_err o n s t hive stop error is stays = stays_iff o n s t _ _ stays
     (λ failed. let same : stop ≡ CatalogFault = cc in ap Err (to_fault hive stop error is same))
@@ -165,7 +165,7 @@ pub number_counts : {A : Type 0} (plan : List Act) (a b : Seen) (r : Result A Ro
 number_counts plan a b (Ok x) made = quietly plan a b _ (λ is. let no : ⊥ = cc in no) made
 number_counts {A} plan a b (Err error) ends = ends_counts {A = A} plan error a b ends
 
-pub no_number : (hive : HiveName) (held : Option Area) (stop : Stop) (error : RoundErr) → IsToldAs hive stop error → IsOfHive (λ name. (name ≡ cursor_name) × IfSome held (λ m. IsNoCursor (get m cursor_name))) stop → IsNoNumber hive held error
+pub no_number : (hive : HiveName) (held : Option Area) (stop : Stop) (error : RoundErr) → IsStopTold hive stop error → IsOfHive (λ name. (name ≡ cursor_name) × IfSome held (λ m. IsNoCursor (get m cursor_name))) stop → IsNoNumber hive held error
 no_number hive held CatalogFault error is cause = absurd cause
 no_number hive held HiveFault error is cause = subst (IsNoNumber hive held) (sym is) tt
 no_number hive held (CatalogDamaged name) error is cause = absurd cause

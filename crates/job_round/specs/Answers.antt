@@ -14,15 +14,15 @@ use Rattle.id_pass.specs.declared.error.RoundErr.TheVariants as told
 use Rattle.id_pass.specs.declared.error.RoundOut.{RoundOut}
 use Rattle.id_pass.specs.declared.error.RoundOut.TheVariants.{Done, Idle}
 use Rattle.job_round.specs.Cursors.{IsDamagedCursor, IsNoCursor}
-use Rattle.job_round.specs.Items.{IsLost}
+use Rattle.job_round.specs.Items.{IsLostBlob}
 use Rattle.job_round.specs.States.{IsNoState}
 use Rattle.job_round.specs.declared.stop.Stop.{Stop}
 use Rattle.job_round.specs.declared.stop.Stop.TheVariants.{CatalogFault, HiveFault, CatalogDamaged, HiveDamaged, Memory}
 
 -- the number that a round answers
-abbrev pub number_of : RoundOut → ℕ
-number_of (Done n) = n
-number_of (Idle n) = n
+abbrev pub told_number : RoundOut → ℕ
+told_number (Done n) = n
+told_number (Idle n) = n
 
 -- what holds of the number, where the round did something
 abbrev pub IfDone : RoundOut → (ℕ → Type 0) → Type 0
@@ -57,12 +57,12 @@ abbrev pub TellsDamaged : List ℕ → RoundErr → Type 0
 TellsDamaged name error = (error ≡ told.Damaged name) ⊎ (error ≡ told.Memory)
 
 -- how a stop is told
-abbrev pub IsToldAs : HiveName → Stop → RoundErr → Type 0
-IsToldAs hive CatalogFault error = error ≡ told.CatalogFault
-IsToldAs hive HiveFault error = error ≡ told.HiveFault
-IsToldAs hive (CatalogDamaged name) error = TellsDamaged (in_catalog name) error
-IsToldAs hive (HiveDamaged name) error = TellsDamaged (in_hive hive name) error
-IsToldAs hive Memory error = error ≡ told.Memory
+abbrev pub IsStopTold : HiveName → Stop → RoundErr → Type 0
+IsStopTold hive CatalogFault error = error ≡ told.CatalogFault
+IsStopTold hive HiveFault error = error ≡ told.HiveFault
+IsStopTold hive (CatalogDamaged name) error = TellsDamaged (in_catalog name) error
+IsStopTold hive (HiveDamaged name) error = TellsDamaged (in_hive hive name) error
+IsStopTold hive Memory error = error ≡ told.Memory
 
 -- what holds of the text of a damaged blob, where the error tells one
 abbrev pub IfDamagedText : RoundErr → (List ℕ → Type 0) → Type 0
@@ -73,7 +73,7 @@ IfDamagedText told.Memory P = ⊤
 
 -- a blob of the catalog is damaged: it is why the catalog couldn't be settled, or a leaf or a publish's file isn't held as it should be
 abbrev pub IsLostInCatalog : {B : Type 0} → (old new : Opened B) → (before after : Seen) → List ℕ → Type 0
-IsLostInCatalog old new before after name = ((m : Area) → before.held ≡ Some m → IsUnsettled m old name) ⊎ IsLost new after name
+IsLostInCatalog old new before after name = ((m : Area) → before.held ≡ Some m → IsUnsettled m old name) ⊎ IsLostBlob new after name
 
 -- a blob of the hive is damaged: the cursor is none, or is beyond the last commit; or the state of an id is none that it may have
 abbrev pub IsLostInHive : {B : Type 0} → Opened B → Seen → Option Area → List ℕ → Type 0

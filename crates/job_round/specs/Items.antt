@@ -46,8 +46,8 @@ abbrev pub IsNoStaged : Area → List ℕ → Type 0
 IsNoStaged m name = (number place : ℕ) × (nuspec : Bool) × (name ≡ staged_name number place nuspec) × (get m name ≡ None)
 
 -- the leaf of a row or what a publish brought has this name, and the area that is told doesn't hold it as it should be
-abbrev pub IsLost : {B : Type 0} → Opened B → Seen → List ℕ → Type 0
-IsLost o s name = (m : Area) → s.held ≡ Some m → IsNoLeafAmong m o.base o.kept.rows name ⊎ IsNoStaged m name
+abbrev pub IsLostBlob : {B : Type 0} → Opened B → Seen → List ℕ → Type 0
+IsLostBlob o s name = (m : Area) → s.held ≡ Some m → IsNoLeafAmong m o.base o.kept.rows name ⊎ IsNoStaged m name
 
 -- the same of an area, where it is told
 abbrev pub IsStagedAbsent : Option Area → List ℕ → Type 0

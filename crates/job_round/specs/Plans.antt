@@ -18,10 +18,10 @@ use Rattle.hive_state.specs.State.{state_name}
 use Rattle.id_pass.specs.Passes.{ArePassCalls, is_idle}
 use Rattle.id_pass.specs.declared.call.Call.{Call}
 use Rattle.std.specs.List.{AllByRecursion}
-use Rattle.job_round.specs.Items.{IsLost, items_after, items_behind}
+use Rattle.job_round.specs.Items.{IsLostBlob, items_after, items_behind}
 use Rattle.job_round.specs.Made.{AreMade, AreSomeMade}
-use Rattle.job_round.specs.States.{IsNoState, IsStored, at_in}
-use Rattle.job_round.specs.Stops.{HaltsAt, IfDamaged}
+use Rattle.job_round.specs.States.{IsNoState, IsStoredState, at_in}
+use Rattle.job_round.specs.Stops.{JobHaltsAt, IfDamaged}
 use Rattle.job_round.specs.declared.ids.IdRows.{IdRows}
 use Rattle.job_round.specs.declared.stop.Stop.{Stop}
 
@@ -53,7 +53,7 @@ pub record IsPlanned (f : Fold) (target : ℕ) (p : Pass) : Type 0 where
 -- A pass takes up its id: the state is the one held, the items are those of the catalog behind the cursor c and the state, for each catalog
 -- that may be meant.
 pub record TakesUp (f : Fold) (Q : Catalog → Type 0) (c target : ℕ) (held : Option Area) (p : Pass) : Type 0 where
-  pub stored : IfSome held (λ m. IsStored p.key target (get m (state_name p.key)) p.stored)
+  pub stored : IfSome held (λ m. IsStoredState p.key target (get m (state_name p.key)) p.stored)
   pub items : (cs : Catalog) → Q cs → p.items ≡ items_behind c (at_in p.stored) cs p.key
   pub planned : IsPlanned f target p
 
@@ -86,7 +86,7 @@ abbrev pub PassesHalt : Fold → (Catalog → Type 0) → (c target : ℕ) → L
 PassesHalt f Q c target keys stop old new =
     (passes : List Pass) × (last : Pass) × (rest : List (List ℕ)) × (keys ≡ keys_in passes ++ last.key ∷ rest)
     × AreWholePasses f Q c target old.held passes × IsPartPass f Q c target (held_after (passes_plan passes) old.held) last
-    × HaltsAt (passes_plan passes ++ pass_plan last) stop old new
+    × JobHaltsAt (passes_plan passes ++ pass_plan last) stop old new
 
 -- The passes of these ids were made as the result tells.
 abbrev pub RunsPasses : {A : Type 0} → Fold → (Catalog → Type 0) → (c target : ℕ) → List (List ℕ) → Seen → Seen → Result A Stop → Type 0
@@ -96,7 +96,7 @@ RunsPasses f Q c target keys old new (Err stop) = PassesHalt f Q c target keys s
 -- The pass of an id was made as the result tells.
 abbrev pub RunsPass : {A : Type 0} → Fold → (Catalog → Type 0) → (c target : ℕ) → List ℕ → Seen → Seen → Result A Stop → Type 0
 RunsPass f Q c target key old new (Ok a) = (p : Pass) × (p.key ≡ key) × IsWholePass f Q c target old.held p × Makes (pass_plan p) old new
-RunsPass f Q c target key old new (Err stop) = (p : Pass) × (p.key ≡ key) × IsPartPass f Q c target old.held p × HaltsAt (pass_plan p) stop old new
+RunsPass f Q c target key old new (Err stop) = (p : Pass) × (p.key ≡ key) × IsPartPass f Q c target old.held p × JobHaltsAt (pass_plan p) stop old new
 
 -- a catalog that may be meant, of which the id's rows behind the cursor c are these
 abbrev pub IsTold : ℕ → IdRows → (Catalog → Type 0) → Catalog → Type 0
@@ -112,4 +112,4 @@ IsStateLost target held name = (key : List ℕ) × (name ≡ state_name key) × 
 
 -- what is told as damaged in passes: a blob of the catalog, or a state
 abbrev pub IsOfPasses : {B : Type 0} → Opened B → Seen → Seen → ℕ → Stop → Type 0
-IsOfPasses o s hive target stop = IfDamaged (IsLost o s) (IsStateLost target hive.held) stop
+IsOfPasses o s hive target stop = IfDamaged (IsLostBlob o s) (IsStateLost target hive.held) stop

@@ -21,7 +21,7 @@ use Rattle.id_pass.specs.declared.error.RoundOut.TheVariants.{Done, Idle}
 use Rattle.job_round.specs.Cursors.{IsCursor}
 use Rattle.job_round.specs.Items.{keys_after}
 use Rattle.job_round.specs.Plans.{AreWholePasses, IsPartPass, Pass, PassesHalt, held_after, keys_in, pass_plan, passes_plan}
-use Rattle.job_round.specs.Stops.{HaltsAt, hive_stop_of}
+use Rattle.job_round.specs.Stops.{JobHaltsAt, hive_stop_of}
 use Rattle.job_round.specs.declared.stop.Stop.{Stop}
 use Rattle.job_round.specs.declared.stop.Stop.TheVariants.{CatalogFault, HiveFault, CatalogDamaged, HiveDamaged, Memory}
 
@@ -77,7 +77,7 @@ IsStopOf stop error = stop ≡ hive_stop_of error
 abbrev pub RunsRound : Fold → (Catalog → Type 0) → Seen → Seen → Result RoundOut Stop → Type 0
 RunsRound f Q old new (Ok (Done n)) = RoundDone f Q n old new
 RunsRound f Q old new (Ok (Idle n)) = IsNoTask Q old.held n × Makes (Get cursor_name ∷ []) old new
-RunsRound f Q old new (Err stop) = RoundHalts f Q (λ plan. HaltsAt plan stop old new) (IsStopOf stop) old new
+RunsRound f Q old new (Err stop) = RoundHalts f Q (λ plan. JobHaltsAt plan stop old new) (IsStopOf stop) old new
 
 -- what a round that told this made of a plan
 abbrev pub EndsAt : List Act → RoundErr → Seen → Seen → Type 0
@@ -100,15 +100,15 @@ Rounds f Q old new (Err error) = RoundHalts f Q (λ plan. EndsAt plan error old 
 -- the last call was made, or it stopped before it or at it
 abbrev pub RunsLast : {A : Type 0} → Act → Seen → Seen → Result A Stop → Type 0
 RunsLast last old new (Ok a) = Makes (last ∷ []) old new
-RunsLast last old new (Err stop) = HaltsAt [] stop old new ⊎ ((error : BlobErr) × (stop ≡ hive_stop_of error) × StopsAt (last ∷ []) error old new)
+RunsLast last old new (Err stop) = JobHaltsAt [] stop old new ⊎ ((error : BlobErr) × (stop ≡ hive_stop_of error) × StopsAt (last ∷ []) error old new)
 
 -- What taking up ids made: their passes and the cursor's put; up to where it stopped.
 abbrev pub RunsTaking : {A : Type 0} → Fold → (Catalog → Type 0) → (c target stamp : ℕ) → List (List ℕ) → Seen → Seen → Result A Stop → Type 0
 RunsTaking f Q c target stamp keys old new (Ok a) = (passes : List Pass) × (keys_in passes ≡ keys) × AreWholePasses f Q c target old.held passes
     × Makes (passes_plan passes ++ cursor_put target stamp ∷ []) old new
-RunsTaking f Q c target stamp keys old new (Err stop) = HaltsAt [] stop old new ⊎ (PassesHalt f Q c target keys stop old new
+RunsTaking f Q c target stamp keys old new (Err stop) = JobHaltsAt [] stop old new ⊎ (PassesHalt f Q c target keys stop old new
     ⊎ ((passes : List Pass) × (keys_in passes ≡ keys) × AreWholePasses f Q c target old.held passes
-    × (HaltsAt (passes_plan passes) stop old new ⊎ ((error : BlobErr) × (stop ≡ hive_stop_of error) × StopsAt (passes_plan passes ++ cursor_put target stamp ∷ []) error old new))))
+    × (JobHaltsAt (passes_plan passes) stop old new ⊎ ((error : BlobErr) × (stop ≡ hive_stop_of error) × StopsAt (passes_plan passes ++ cursor_put target stamp ∷ []) error old new))))
 
 -- why there is no answer where no row stands behind the cursor: the catalog gave none, or its last commit isn't the cursor's
 abbrev pub IsEndStop : {B : Type 0} → Opened B → Seen → ℕ → Stop → Type 0

@@ -13,24 +13,24 @@ abbrev pub is_owned : List ℕ → List ℕ → Bool
 is_owned key name = option_map_or (bytes_eq key) (owner name) false
 
 -- whether an id may have this state at the target: it doesn't stand beyond that, and its names are the id's
-abbrev pub fits : List ℕ → ℕ → StateDoc → Bool
-fits key target s = nat_le s.at target && list_all (is_owned key) s.names
+abbrev pub fits_id : List ℕ → ℕ → StateDoc → Bool
+fits_id key target s = nat_le s.at target && list_all (is_owned key) s.names
 
 -- what is found is this state, and of no other that the code's types have; or nothing where there is none
-abbrev pub IsStored : (key : List ℕ) (target : ℕ) → Option (List ℕ) → Option StateDoc → Type 0
-IsStored key target found None = found ≡ None
-IsStored key target found (Some s) = (found ≡ Some (state_text s))
-    × ((other : StateDoc) → IsStateValue other → found ≡ Some (state_text other) → other ≡ s) × (fits key target s ≡ true)
+abbrev pub IsStoredState : (key : List ℕ) (target : ℕ) → Option (List ℕ) → Option StateDoc → Type 0
+IsStoredState key target found None = found ≡ None
+IsStoredState key target found (Some s) = (found ≡ Some (state_text s))
+    × ((other : StateDoc) → IsStateValue other → found ≡ Some (state_text other) → other ≡ s) × (fits_id key target s ≡ true)
 
 -- what is found is no state that the id may have
 abbrev pub IsNoState : (key : List ℕ) (target : ℕ) → Option (List ℕ) → Type 0
 IsNoState key target None = ⊥
-IsNoState key target (Some bytes) = (s : StateDoc) → IsStateValue s → fits key target s ≡ true → bytes ≡ state_text s → ⊥
+IsNoState key target (Some bytes) = (s : StateDoc) → IsStateValue s → fits_id key target s ≡ true → bytes ≡ state_text s → ⊥
 
 -- these bytes are of this state, or of none that the id may have
 abbrev pub IsReadAs : (key : List ℕ) (target : ℕ) → List ℕ → Option StateDoc → Type 0
 IsReadAs key target bytes None = IsNoState key target (Some bytes)
-IsReadAs key target bytes (Some s) = IsStored key target (Some bytes) (Some s)
+IsReadAs key target bytes (Some s) = IsStoredState key target (Some bytes) (Some s)
 
 -- the last commit that a state has taken up, 0 where there is none
 abbrev pub at_in : Option StateDoc → ℕ

@@ -39,25 +39,25 @@ IsOfHive in_hive (HiveDamaged name) = in_hive name
 IsOfHive in_hive Memory = ⊤
 
 -- one that only the catalog, or want of memory, brings about
-abbrev pub IsOfCatalog : (List ℕ → Type 0) → Stop → Type 0
-IsOfCatalog in_catalog CatalogFault = ⊤
-IsOfCatalog in_catalog HiveFault = ⊥
-IsOfCatalog in_catalog (CatalogDamaged name) = in_catalog name
-IsOfCatalog in_catalog (HiveDamaged name) = ⊥
-IsOfCatalog in_catalog Memory = ⊤
+abbrev pub IsStopOfCatalog : (List ℕ → Type 0) → Stop → Type 0
+IsStopOfCatalog in_catalog CatalogFault = ⊤
+IsStopOfCatalog in_catalog HiveFault = ⊥
+IsStopOfCatalog in_catalog (CatalogDamaged name) = in_catalog name
+IsStopOfCatalog in_catalog (HiveDamaged name) = ⊥
+IsStopOfCatalog in_catalog Memory = ⊤
 
 -- What a job that stopped made of a plan: what precedes the call that failed, or some of the plan.
-abbrev pub HaltsAt : List Act → Stop → Seen → Seen → Type 0
-HaltsAt plan CatalogFault old new = MakesSome plan old new
-HaltsAt plan HiveFault old new = StopsAt plan blob.Failed old new
-HaltsAt plan (CatalogDamaged name) old new = MakesSome plan old new
-HaltsAt plan (HiveDamaged name) old new = MakesSome plan old new
-HaltsAt plan Memory old new = StopsAt plan blob.Memory old new ⊎ MakesSome plan old new
+abbrev pub JobHaltsAt : List Act → Stop → Seen → Seen → Type 0
+JobHaltsAt plan CatalogFault old new = MakesSome plan old new
+JobHaltsAt plan HiveFault old new = StopsAt plan blob.Failed old new
+JobHaltsAt plan (CatalogDamaged name) old new = MakesSome plan old new
+JobHaltsAt plan (HiveDamaged name) old new = MakesSome plan old new
+JobHaltsAt plan Memory old new = StopsAt plan blob.Memory old new ⊎ MakesSome plan old new
 
 -- The plan was made as the result tells.
 abbrev pub RunsTo : {A : Type 0} → List Act → Seen → Seen → Result A Stop → Type 0
 RunsTo plan old new (Ok a) = Makes plan old new
-RunsTo plan old new (Err stop) = HaltsAt plan stop old new
+RunsTo plan old new (Err stop) = JobHaltsAt plan stop old new
 
 -- One call was made, or it failed.
 abbrev pub RunsOne : {A : Type 0} → Act → Seen → Seen → Result A Stop → Type 0

@@ -8,7 +8,7 @@ ghost use Rattle.catalog_core.specs.Framing.{StaysOpen};
 ghost use Rattle.catalog_core.specs.Opened.{IsOpenFor};
 ghost use Rattle.cursor_doc.specs.Cursor.{cursor_name};
 ghost use Rattle.fold_core.specs.Folds.{fold_of};
-ghost use Rattle.job_round.specs.Answers.{IfDamagedText, IfDone, IfIdle, IsDamagedBlob, IsNoNumber, IsToldAs, TellsDamaged, hive_word, in_area, number_of};
+ghost use Rattle.job_round.specs.Answers.{IfDamagedText, IfDone, IfIdle, IsDamagedBlob, IsNoNumber, IsStopTold, TellsDamaged, hive_word, in_area, told_number};
 ghost use Rattle.job_round.specs.Cursors.{IsCursor};
 ghost use Rattle.job_round.specs.Rounds.{EndsTo, Rounds};
 
@@ -46,7 +46,7 @@ fn damaged(alloc: Global, area: &str, name: &Text) -> RoundErr
 
 // Tells why a round of the hive stopped.
 fn round_err(alloc: Global, hive: HiveName, stop: Stop) -> RoundErr
-    ensures { IsToldAs hive stop result }
+    ensures { IsStopTold hive stop result }
 {
     match stop {
         Stop::CatalogFault => RoundErr::CatalogFault,
@@ -85,7 +85,7 @@ pub fn run_round<H: Hive, B: Blobs>(
     // The calls on the hive's store: the cursor is got, each id's pass is made, and the cursor is put; up to where it stopped.
     ensures runs { Rounds (fold_of H.keeps H.makes catalog.old.base) (IsOpenFor catalog.old (B.seen catalog.old.area)) (B.seen area.old) (B.seen area.new) result }
 
-    ensures target { (cs : List Stored) → IsOpenFor catalog.old (B.seen catalog.old.area) cs → IfOk result (λ out. number_of out ≡ length cs) }
+    ensures target { (cs : List Stored) → IsOpenFor catalog.old (B.seen catalog.old.area) cs → IfOk result (λ out. told_number out ≡ length cs) }
     ensures idle { IfOk result (λ out. IfIdle out (λ n. ((B.seen area.new).held ≡ (B.seen area.old).held)
         × IfSome (B.seen area.old).held (λ m. IsCursor (get m cursor_name) n))) }
     ensures done { (cs : List Stored) → IsOpenFor catalog.old (B.seen catalog.old.area) cs

@@ -8,7 +8,7 @@ ghost use Rattle.catalog_core.specs.Opened.{IsOpenFor};
 ghost use Rattle.cursor_doc.specs.Cursor.{cursor_name};
 ghost use Rattle.fold_core.specs.Folds.{fold_of};
 ghost use Rattle.id_pass.specs.declared.error.RoundOut.TheVariants.{Done, Idle};
-ghost use Rattle.job_round.specs.Answers.{IfDamagedText, IfDone, IfIdle, IsDamagedBlob, IsLostInCatalog, IsLostInHive, IsToldAs, hive_word, number_of};
+ghost use Rattle.job_round.specs.Answers.{IfDamagedText, IfDone, IfIdle, IsDamagedBlob, IsLostInCatalog, IsLostInHive, IsStopTold, hive_word, told_number};
 ghost use Rattle.job_round.specs.Cursors.{IsCursor};
 ghost use Rattle.job_round.specs.Ids.{by_id, key_of_id};
 ghost use Rattle.job_round.specs.Plans.{AreTold, IsOfPasses};

@@ -5,7 +5,7 @@ ghost use Rattle.std.specs.List.{list_all, position};
 ghost use Rattle.blob_store.specs.Events.{Get};
 ghost use Rattle.fold_core.specs.Docs.{before_slash};
 ghost use Rattle.hive_state.specs.State.{state_name};
-ghost use Rattle.job_round.specs.States.{IsNoState, IsReadAs, IsStored, at_in, fits, is_owned};
+ghost use Rattle.job_round.specs.States.{IsNoState, IsReadAs, IsStoredState, at_in, fits_id, is_owned};
 ghost use Rattle.job_round.specs.Stops.{IsOfHive, RunsTo};
 
 use crate::calls::get;
@@ -51,8 +51,8 @@ fn are_owned(key: &str, names: &[Text]) -> bool
 }
 
 // Whether an id may have this state at the target.
-fn fits(key: &str, target: u32, state: &StateDoc) -> bool
-    ensures { result ≡ fits key.now target state.now }
+fn fits_id(key: &str, target: u32, state: &StateDoc) -> bool
+    ensures { result ≡ fits_id key.now target state.now }
 {
     state.at <= target && are_owned(key, state.names.as_slice())
 }
@@ -67,7 +67,7 @@ fn state_in(
     ensures { IfOk result (IsReadAs key.now target bytes.now) }
 {
     match read_state(alloc, bytes) {
-        Ok(state) if fits(key, target, &state) => Ok(Some(state)),
+        Ok(state) if fits_id(key, target, &state) => Ok(Some(state)),
         Ok(_) | Err(DocErr::Damaged) => Ok(None),
         Err(DocErr::Memory) => Err(NoMemory),
     }
@@ -82,9 +82,9 @@ pub(crate) fn state_of<B: Blobs>(
     target: u32,
 ) -> Result<Option<StateDoc>, Stop>
     ensures runs { RunsTo (Get (state_name key.now) ∷ []) (B.seen area.old) (B.seen area.new) result }
-    ensures stored { IfOk result (λ stored. IfSome (B.seen area.old).held (λ m. IsStored key.now target (get m (state_name key.now)) stored)) }
+    ensures stored { IfOk result (λ stored. IfSome (B.seen area.old).held (λ m. IsStoredState key.now target (get m (state_name key.now)) stored)) }
     ensures same { (B.seen area.new).held ≡ (B.seen area.old).held }
-    ensures fitting { IfOk result (λ stored. IfSome stored (λ s. fits key.now target s ≡ true)) }
+    ensures fitting { IfOk result (λ stored. IfSome stored (λ s. fits_id key.now target s ≡ true)) }
     ensures cause { IfErr result (IsOfHive (λ name. (name ≡ state_name key.now)
         × IfSome (B.seen area.old).held (λ m. IsNoState key.now target (get m (state_name key.now))))) }
 {

@@ -13,7 +13,7 @@ use Rattle.pkg_meta.specs.declared.item.Item.{Item}
 use Rattle.fold_core.specs.Items.{commits_of, is_of, items_in, items_of, touched_at}
 use Rattle.fold_core.proofs.Gathered.{filter_joined}
 use Rattle.fold_core.proofs.Touches.{items_stay}
-use Rattle.pass_laws.specs.Starting.{is_behind, items_behind}
+use Rattle.pass_laws.specs.Starting.{is_behind_state, items_behind_state}
 
 -- commits with the numbers above this one
 abbrev AreNumbered : ℕ → Catalog → Type 0
@@ -26,39 +26,39 @@ numbered before (c ∷ cs) follow =
     (follow.0.number, subst (λ (n : ℕ). AreNumbered n cs) (length-append before (c ∷ [])) (numbered (before ++ c ∷ []) cs follow.1))
 
 module _ (at number stamp : ℕ) where
-  all_stay : (place : ℕ) (items : List Item) → nat_lt at number ≡ true → filter (is_behind at) (placed_from number stamp place items) ≡ placed_from number stamp place items
+  all_stay : (place : ℕ) (items : List Item) → nat_lt at number ≡ true → filter (is_behind_state at) (placed_from number stamp place items) ≡ placed_from number stamp place items
   all_stay place [] is = refl
   all_stay place (it ∷ items) is =
       let x : Placed = record { number = number; place = place; stamp = stamp; what = it } in
       λ i. cond (is i) (x ∷ all_stay (suc place) items is i) (all_stay (suc place) items is i)
 
-  none_stay : (place : ℕ) (items : List Item) → nat_lt at number ≡ false → filter (is_behind at) (placed_from number stamp place items) ≡ []
+  none_stay : (place : ℕ) (items : List Item) → nat_lt at number ≡ false → filter (is_behind_state at) (placed_from number stamp place items) ≡ []
   none_stay place [] is = refl
   none_stay place (it ∷ items) is =
       let x : Placed = record { number = number; place = place; stamp = stamp; what = it } in
       λ i. cond (is i) (x ∷ none_stay (suc place) items is i) (none_stay (suc place) items is i)
 
-all_behind : (at n : ℕ) (cs : Catalog) → at ≤ n → AreNumbered n cs → filter (is_behind at) (all_placed cs) ≡ all_placed cs
+all_behind : (at n : ℕ) (cs : Catalog) → at ≤ n → AreNumbered n cs → filter (is_behind_state at) (all_placed cs) ≡ all_placed cs
 all_behind at n [] le numbers = refl
 all_behind at n (c ∷ cs) le numbers =
     let own : nat_lt at c.commit.number ≡ true = lt-ltb at c.commit.number (omega (arith, le, numbers.0)) in
-    filter_joined (is_behind at) (placed_of c) (all_placed cs)
+    filter_joined (is_behind_state at) (placed_of c) (all_placed cs)
     ∙ (λ i. all_stay at c.commit.number c.commit.stamp 0 c.commit.items own i ++ all_behind at (n + 1) cs (omega (arith, le)) numbers.1 i)
 
-behind : (n k : ℕ) (cs : Catalog) → AreNumbered n cs → filter (is_behind (n + k)) (all_placed cs) ≡ all_placed (drop k cs)
+behind : (n k : ℕ) (cs : Catalog) → AreNumbered n cs → filter (is_behind_state (n + k)) (all_placed cs) ≡ all_placed (drop k cs)
 behind n zero cs numbers = all_behind (n + 0) n cs (omega arith) numbers
 behind n (suc k) [] numbers = refl
 behind n (suc k) (c ∷ cs) numbers =
     let own : nat_lt (n + suc k) c.commit.number ≡ false = le-ltb (n + suc k) c.commit.number (omega (arith, numbers.0)) in
     let next : (n + 1) + k ≡ n + suc k = omega arith in
-    filter_joined (is_behind (n + suc k)) (placed_of c) (all_placed cs)
+    filter_joined (is_behind_state (n + suc k)) (placed_of c) (all_placed cs)
     ∙ (λ i. none_stay (n + suc k) c.commit.number c.commit.stamp 0 c.commit.items own i
-    ++ subst (λ (m : ℕ). filter (is_behind m) (all_placed cs) ≡ all_placed (drop k cs)) next (behind (n + 1) k cs numbers.1) i)
+    ++ subst (λ (m : ℕ). filter (is_behind_state m) (all_placed cs) ≡ all_placed (drop k cs)) next (behind (n + 1) k cs numbers.1) i)
 
-placed_behind : (cs : Catalog) (k : ℕ) → IsLawful cs → filter (is_behind k) (all_placed cs) ≡ all_placed (drop k cs)
+placed_behind : (cs : Catalog) (k : ℕ) → IsLawful cs → filter (is_behind_state k) (all_placed cs) ≡ all_placed (drop k cs)
 placed_behind cs k lawful =
     let same : 0 + k ≡ k = omega arith in
-    subst (λ (m : ℕ). filter (is_behind m) (all_placed cs) ≡ all_placed (drop k cs)) same (behind 0 k cs (numbered [] cs lawful.commits))
+    subst (λ (m : ℕ). filter (is_behind_state m) (all_placed cs) ≡ all_placed (drop k cs)) same (behind 0 k cs (numbered [] cs lawful.commits))
 
 -- filters, one after the other
 filter_pair : (p q : Placed → Bool) (xs : List Placed) → filter p (filter q xs) ≡ filter (λ (x : Placed). q x && p x) xs
@@ -97,12 +97,12 @@ module _ (cs : Catalog) (key : List ℕ) where
       ∙ ap (λ (l : List Commit). items_of l key) (sym (drop-map (λ (c : Stored). c.commit) k cs))
 
   both_behind : (c at t : ℕ) → IsLawful cs
-      → ((n : ℕ) (b : Bool) → ((nat_lt c n && b) && nat_lt at n) ≡ (nat_lt t n && b)) → items_behind c at cs key ≡ items_of (drop t commits) key
+      → ((n : ℕ) (b : Bool) → ((nat_lt c n && b) && nat_lt at n) ≡ (nat_lt t n && b)) → items_behind_state c at cs key ≡ items_of (drop t commits) key
   both_behind c at t lawful same =
-      ap (filter (is_behind at)) (filter_pair mine (is_behind c) (all_placed cs))
-      ∙ filter_pair (is_behind at) (λ (x : Placed). is_behind c x && mine x) (all_placed cs)
+      ap (filter (is_behind_state at)) (filter_pair mine (is_behind_state c) (all_placed cs))
+      ∙ filter_pair (is_behind_state at) (λ (x : Placed). is_behind_state c x && mine x) (all_placed cs)
       ∙ (λ i. filter (λ (x : Placed). same x.number (mine x) i) (all_placed cs))
-      ∙ sym (filter_pair mine (is_behind t) (all_placed cs))
+      ∙ sym (filter_pair mine (is_behind_state t) (all_placed cs))
       ∙ ap (filter mine) (placed_behind cs t lawful)
       ∙ of_commits t
 
@@ -112,10 +112,10 @@ module _ (cs : Catalog) (key : List ℕ) where
     pub items_are : items ≡ items_of (drop from commits) key
     pub before : items_of (take from commits) key ≡ items_of (take at commits) key
 
-  pub are_behind : (c at : ℕ) → IsLawful cs → touched_at commits key c ≤ at → AreBehind at (items_behind c at cs key)
+  pub are_behind : (c at : ℕ) → IsLawful cs → touched_at commits key c ≤ at → AreBehind at (items_behind_state c at cs key)
   are_behind c at lawful last = by_test (nat_lt at c) refl
     where
-      by_test : (b : Bool) → nat_lt at c ≡ b → AreBehind at (items_behind c at cs key)
+      by_test : (b : Bool) → nat_lt at c ≡ b → AreBehind at (items_behind_state c at cs key)
       by_test true is =
           let less : at < c = ltb-true at c is in record {
             from = c;

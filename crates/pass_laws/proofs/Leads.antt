@@ -27,7 +27,7 @@ use Rattle.hive_state.specs.Reading.{IsStateValue}
 use Rattle.id_pass.specs.Passes.{HasStates, docs_by, docs_given, is_idle, number_after, pass_calls, written}
 use Rattle.id_pass.specs.declared.call.Call.{Call}
 use Rattle.pass_laws.specs.Making.{AreMadeBy, AreSomeMadeBy, HaveCallBytes}
-use Rattle.pass_laws.specs.Starting.{AreCallsOf, StartsPassOf, at_in, items_behind}
+use Rattle.pass_laws.specs.Starting.{AreCallsOf, StartsPassOf, state_at, items_behind_state}
 use Rattle.pass_laws.proofs.Behind.{AreBehind, are_behind}
 use Rattle.pass_laws.proofs.Calls.{all_made, calls_have, calls_made, some_made}
 use Rattle.pass_laws.proofs.Plan.{has_bytes, is_plan, is_written, plan_of}
@@ -63,7 +63,7 @@ module _ (keeps : Keeps) (makes : Makes) (base : List ℕ) (staged : (base key :
   k = length cs
 
   abbrev items : List Placed
-  items = items_behind c (at_in old) cs key
+  items = items_behind_state c (state_at old) cs key
 
   lawful : IsLawful cs
   lawful = starts.catalog.lawful
@@ -71,8 +71,8 @@ module _ (keeps : Keeps) (makes : Makes) (base : List ℕ) (staged : (base key :
   old_is : IsOld keeps cs key old
   old_is = is_old f cs c key old (get m) starts.sound.state
 
-  behind : AreBehind cs key (at_in old) items
-  behind = are_behind cs key c (at_in old) lawful (last_item f cs c key old (get m) starts.sound.state)
+  behind : AreBehind cs key (state_at old) items
+  behind = are_behind cs key c (state_at old) lawful (last_item f cs c key old (get m) starts.sound.state)
 
   module _ (dirty clean : StateDoc) (states : HasStates keeps makes base key old items k dirty clean) where
     abbrev pub plan : PassPlan

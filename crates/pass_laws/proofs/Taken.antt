@@ -17,7 +17,7 @@ use Rattle.fold_core.proofs.Gathered.{items_joined}
 use Rattle.fold_core.proofs.Numbers.{number_is_last, stamp_is_last}
 use Rattle.hive_laws.proofs.Fronts.{fronts_lawful}
 use Rattle.id_pass.specs.Passes.{IsTakenIn, entries_in, number_after, stamp_after}
-use Rattle.pass_laws.specs.Starting.{at_in}
+use Rattle.pass_laws.specs.Starting.{state_at}
 use Rattle.pass_laws.proofs.Behind.{AreBehind}
 
 pub fronts : (cs : Catalog) (j : ℕ) → commits_of (take j cs) ≡ take j (commits_of cs)
@@ -48,9 +48,9 @@ stamp_by (Some s) (Some x) was is = refl
 
 -- a stored state tells what the commits up to its `at` make
 pub record IsOld (keeps : Keeps) (cs : Catalog) (key : List ℕ) (old : Option StateDoc) : Type 0 where
-  pub number : number_after old None ≡ touched (commits_of (take (at_in old) cs)) key
-  pub stamp : stamp_after old None ≡ touched_stamp (commits_of (take (at_in old) cs)) key
-  pub entries : entries_in old ≡ entries_of keeps (items_of (take (at_in old) (commits_of cs)) key)
+  pub number : number_after old None ≡ touched (commits_of (take (state_at old) cs)) key
+  pub stamp : stamp_after old None ≡ touched_stamp (commits_of (take (state_at old) cs)) key
+  pub entries : entries_in old ≡ entries_of keeps (items_of (take (state_at old) (commits_of cs)) key)
 
 pub is_old : (f : Fold) (cs : Catalog) (c : ℕ) (key : List ℕ) (old : Option StateDoc) (held : Look (List ℕ)) → HasState f cs c key old held → IsOld f.keeps cs key old
 is_old f cs c key None held state = record { number = refl; stamp = refl; entries = sym (entries_none f.keeps) }
@@ -61,12 +61,12 @@ is_old f cs c key (Some s) held state = record {
 }
 
 pub last_item : (f : Fold) (cs : Catalog) (c : ℕ) (key : List ℕ) (old : Option StateDoc) (held : Look (List ℕ)) → HasState f cs c key old held
-    → touched_at (commits_of cs) key c ≤ at_in old
+    → touched_at (commits_of cs) key c ≤ state_at old
 last_item f cs c key None held state = let none : touched_at (commits_of cs) key c ≡ 0 = state.0 in omega (arith, none)
 last_item f cs c key (Some s) held state = state.1.recent
 
 module _ (f : Fold) (cs : Catalog) (key : List ℕ) (lawful : IsLawful cs) (old : Option StateDoc) (was : IsOld f.keeps cs key old)
-    (items : List Placed) (behind : AreBehind cs key (at_in old) items) where
+    (items : List Placed) (behind : AreBehind cs key (state_at old) items) where
   abbrev commits : List Commit
   commits = commits_of cs
 
@@ -82,19 +82,19 @@ module _ (f : Fold) (cs : Catalog) (key : List ℕ) (lawful : IsLawful cs) (old 
   all_last : last_placed (items_of commits key) ≡ or_earlier (last_placed items) (last_placed first)
   all_last = ap last_placed all_items ∙ last_joined first last ∙ ap (λ (l : List Placed). or_earlier (last_placed l) (last_placed first)) (sym behind.items_are)
 
-  first_is : items_of (commits_of (take (at_in old) cs)) key ≡ first
-  first_is = ap (λ (l : List Commit). items_of l key) (fronts cs (at_in old)) ∙ sym behind.before
+  first_is : items_of (commits_of (take (state_at old) cs)) key ≡ first
+  first_is = ap (λ (l : List Commit). items_of l key) (fronts cs (state_at old)) ∙ sym behind.before
 
   pub number_is : number_after old (last_placed items) ≡ touched commits key
   number_is =
       number_by old (last_placed items) (last_placed first)
-      (was.number ∙ number_is_last (take (at_in old) cs) key (fronts_lawful cs (at_in old) lawful) ∙ ap (λ (l : List Placed). number_in (last_placed l)) first_is)
+      (was.number ∙ number_is_last (take (state_at old) cs) key (fronts_lawful cs (state_at old) lawful) ∙ ap (λ (l : List Placed). number_in (last_placed l)) first_is)
       ∙ sym (number_is_last cs key lawful ∙ ap number_in all_last)
 
   pub stamp_is : stamp_after old (last_placed items) ≡ touched_stamp commits key
   stamp_is =
       stamp_by old (last_placed items) (last_placed first)
-      (was.stamp ∙ stamp_is_last (take (at_in old) cs) key (fronts_lawful cs (at_in old) lawful) ∙ ap (λ (l : List Placed). moment_in (last_placed l)) first_is)
+      (was.stamp ∙ stamp_is_last (take (state_at old) cs) key (fronts_lawful cs (state_at old) lawful) ∙ ap (λ (l : List Placed). moment_in (last_placed l)) first_is)
       ∙ sym (stamp_is_last cs key lawful ∙ ap moment_in all_last)
 
   pub entries_are : all_applied f.keeps (entries_in old) items ≡ entries_of f.keeps (items_of commits key)

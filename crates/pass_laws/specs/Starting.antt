@@ -14,17 +14,17 @@ use Rattle.id_pass.specs.Passes.{ArePassCalls, is_idle}
 use Rattle.id_pass.specs.declared.call.Call.{Call}
 
 -- the last commit that a state has taken up, 0 where there is none
-abbrev pub at_in : Option StateDoc → ℕ
-at_in None = 0
-at_in (Some s) = s.at
+abbrev pub state_at : Option StateDoc → ℕ
+state_at None = 0
+state_at (Some s) = s.at
 
 -- whether an item stands behind a commit
-abbrev pub is_behind : ℕ → Placed → Bool
-is_behind n x = nat_lt n x.number
+abbrev pub is_behind_state : ℕ → Placed → Bool
+is_behind_state n x = nat_lt n x.number
 
 -- an id's items behind commit c, and behind commit `at` too
-abbrev pub items_behind : (c at : ℕ) → Catalog → List ℕ → List Placed
-items_behind c at cs key = filter (is_behind at) (filter (λ (x : Placed). is_of key x.what) (filter (is_behind c) (all_placed cs)))
+abbrev pub items_behind_state : (c at : ℕ) → Catalog → List ℕ → List Placed
+items_behind_state c at cs key = filter (is_behind_state at) (filter (λ (x : Placed). is_of key x.what) (filter (is_behind_state c) (all_placed cs)))
 
 -- the id is sound at commit c and has an item behind it, and the area holds this state of it, or none
 pub record StartsPassOf (f : Fold) (cs : Catalog) (c : ℕ) (key : List ℕ) (old : Option StateDoc) (m : Area) : Type 0 where
@@ -35,6 +35,6 @@ pub record StartsPassOf (f : Fold) (cs : Catalog) (c : ℕ) (key : List ℕ) (ol
 
 -- the calls over the id's items behind commit c and the state, up to the catalog's end: none where there is nothing to do
 pub record AreCallsOf (f : Fold) (cs : Catalog) (c : ℕ) (key : List ℕ) (old : Option StateDoc) (calls : List Call) : Type 0 where
-  pub idle : is_idle old (items_behind c (at_in old) cs key) ≡ true → calls ≡ []
-  pub planned : is_idle old (items_behind c (at_in old) cs key) ≡ false
-      → ArePassCalls f.keeps f.makes f.base key old (items_behind c (at_in old) cs key) (length cs) calls
+  pub idle : is_idle old (items_behind_state c (state_at old) cs key) ≡ true → calls ≡ []
+  pub planned : is_idle old (items_behind_state c (state_at old) cs key) ≡ false
+      → ArePassCalls f.keeps f.makes f.base key old (items_behind_state c (state_at old) cs key) (length cs) calls

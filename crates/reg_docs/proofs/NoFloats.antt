@@ -7,7 +7,7 @@ use Rattle.pkg_meta.specs.declared.dependency.DepGroup.{DepGroup}
 use Rattle.pkg_meta.specs.declared.entry.Entry.{Entry}
 use Rattle.catalog_doc.proofs.Slotted.{array_if_each, flag_if_each, table_plain, text_if_each}
 use Rattle.reg_docs.specs.Documents.{in_index, registration_index_data, inlined_at, listed_data, registration_page_data}
-use Rattle.reg_docs.specs.Entries.{entry_dep_data, entry_data, entry_slots, entry_group_data, entry_group_slots}
+use Rattle.reg_docs.specs.Entries.{entry_dep_data, reg_entry_data, entry_slots, entry_group_data, entry_group_slots}
 use Rattle.reg_docs.specs.Pages.{cut, is_inlined}
 
 -- no float
@@ -23,7 +23,7 @@ group_plain root g =
     table_plain (entry_group_slots root g)
     (array_if_each IsPlain (map (entry_dep_data root) g.deps) (mapped_plain (entry_dep_data root) (λ dep. refl) g.deps), (text_if_each IsPlain g.framework (λ s is. refl), tt))
 
-entry_plain : (base root : List ℕ) (e : Entry) → IsPlain (entry_data base root e)
+entry_plain : (base root : List ℕ) (e : Entry) → IsPlain (reg_entry_data base root e)
 entry_plain base root e =
     let m = e.details.meta in
     table_plain (entry_slots base root e) (

@@ -72,8 +72,8 @@ entry_slots base root e =
     ∷ []
 
 -- a catalog entry as an object
-abbrev pub entry_data : List ℕ → List ℕ → Entry → Data
-entry_data base root e = object (present (entry_slots base root e))
+abbrev pub reg_entry_data : List ℕ → List ℕ → Entry → Data
+reg_entry_data base root e = object (present (entry_slots base root e))
 
 -- the members that are always there, as they are put
 abbrev pub standing_slots : List ℕ → Details → List Slot

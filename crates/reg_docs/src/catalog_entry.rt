@@ -2,7 +2,7 @@
 ghost use Rattle.std.specs.Prelude.{◌≡◌, map, IfOk, OnOk, string_bytes};
 ghost use Rattle.serde_json.specs.View.{members_view, view};
 ghost use Rattle.pkg_meta.specs.Members.{present, put_slots};
-ghost use Rattle.reg_docs.specs.Entries.{array_slots, entry_dep_data, entry_dep_object, entry_data, entry_slots, entry_group_data, item_url, standing_slots, wording_slots};
+ghost use Rattle.reg_docs.specs.Entries.{array_slots, entry_dep_data, entry_dep_object, reg_entry_data, entry_slots, entry_group_data, item_url, standing_slots, wording_slots};
 
 use crate::addresses::registration_index_url;
 use catalog_doc::leaf_url;
@@ -148,7 +148,7 @@ pub(crate) fn entry_value(
     root: &str,
     entry: &Entry,
 ) -> Result<Value, NoMemory>
-    ensures { IfOk result (λ v. view v ≡ entry_data base.now root.now entry.now) }
+    ensures { IfOk result (λ v. view v ≡ reg_entry_data base.now root.now entry.now) }
 {
     let members = entry_members(alloc, base, root, entry)?;
     Ok(Value::Object(members))

@@ -28,7 +28,7 @@ use Rattle.id_pass.specs.Passes.{HasStates, docs_by, docs_given, is_idle, pass_c
 use Rattle.id_pass.specs.declared.call.Call.{Call}
 use Rattle.id_pass.specs.declared.call.Call.TheVariants.{Put, Remove}
 use Rattle.pass_laws.specs.Making.{AreMadeBy, AreSomeMadeBy, HasCallBytes, HaveCallBytes, IsMadeBy}
-use Rattle.pass_laws.specs.Starting.{AreCallsOf, StartsPassOf, at_in, items_behind}
+use Rattle.pass_laws.specs.Starting.{AreCallsOf, StartsPassOf, state_at, items_behind_state}
 use Rattle.pass_laws.proofs.Behind.{AreBehind, are_behind}
 use Rattle.pass_laws.proofs.Calls.{all_made, calls_made}
 use Rattle.pass_laws.proofs.Leads.{calls_have_bytes}
@@ -73,7 +73,7 @@ module _ (keeps : Keeps) (makes : Makes) (base : List ℕ) (staged : (base key :
   k = length cs
 
   abbrev items : List Placed
-  items = items_behind c (at_in old) cs key
+  items = items_behind_state c (state_at old) cs key
 
   lawful : IsLawful cs
   lawful = starts.catalog.lawful
@@ -81,8 +81,8 @@ module _ (keeps : Keeps) (makes : Makes) (base : List ℕ) (staged : (base key :
   old_is : IsOld keeps cs key old
   old_is = is_old f cs c key old (get m) starts.sound.state
 
-  behind : AreBehind cs key (at_in old) items
-  behind = are_behind cs key c (at_in old) lawful (last_item f cs c key old (get m) starts.sound.state)
+  behind : AreBehind cs key (state_at old) items
+  behind = are_behind cs key c (state_at old) lawful (last_item f cs c key old (get m) starts.sound.state)
 
   module _ (dirty clean : StateDoc) (states : HasStates keeps makes base key old items k dirty clean) where
     abbrev plan : PassPlan

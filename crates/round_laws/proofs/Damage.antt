@@ -26,7 +26,7 @@ use Rattle.hive_laws.specs.Areas.{SoundArea, cursor_at}
 use Rattle.hive_laws.proofs.Listed.{first, later}
 use Rattle.job_round.specs.Answers.{IsDamagedBlob, IsLostInCatalog, IsLostInHive, in_catalog}
 use Rattle.job_round.specs.Cursors.{IsDamagedCursor, IsNoCursor}
-use Rattle.job_round.specs.States.{IsNoState, fits, is_owned}
+use Rattle.job_round.specs.States.{IsNoState, fits_id, is_owned}
 use Rattle.round_laws.proofs.Ways.{cursor_is}
 
 some_inside : {A : Type 0} (x y : A) → Some x ≡ Some y → x ≡ y
@@ -60,7 +60,7 @@ is_state f cs c target key held o None ends e value state lost = lost
 is_state f cs c target key held None (Some bytes) ends e value state lost = let no : ⊥ = cc in no
 is_state f cs c target key held (Some s) (Some bytes) ends e value state lost =
     let low : nat_le s.at target ≡ true = le-leb s.at target (let r : s.at ≤ length cs = state.0.reached in omega (arith, r, ends)) in
-    let fit : fits key target s ≡ true = ap (λ (b : Bool). b && list_all (is_owned key) s.names) low ∙ all_owned key s.names state.0.owned in
+    let fit : fits_id key target s ≡ true = ap (λ (b : Bool). b && list_all (is_owned key) s.names) low ∙ all_owned key s.names state.0.owned in
     lost s value fit (some_inside bytes (state_text s) e)
 
 module _ {B : Type 0} (o n : Opened B) (s t : Seen) (cs : Catalog) (is_open : IsOpenFor o s cs) (f : Fold) (c : ℕ) (left : Area)

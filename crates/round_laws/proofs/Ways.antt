@@ -35,14 +35,14 @@ use Rattle.id_pass.specs.declared.call.Call.{Call}
 use Rattle.id_pass.specs.declared.call.Call.TheVariants.{Put, Remove}
 use Rattle.pass_laws.specs.Making.{AreMadeBy, AreSomeMadeBy, IsMadeBy}
 use Rattle.pass_laws.specs.Starting.{AreCallsOf, StartsPassOf}
-use Rattle.pass_laws.specs.Starting.{at_in as at_of, items_behind as items_of_id}
+use Rattle.pass_laws.specs.Starting.{state_at as at_of, items_behind_state as items_of_id}
 use Rattle.pass_laws.proofs.Leads.{led}
 use Rattle.job_round.specs.Cursors.{IsCursor}
 use Rattle.job_round.specs.Items.{items_behind, keys_after}
-use Rattle.job_round.specs.Made.{AreMade, AreSomeMade, IsMade}
+use Rattle.job_round.specs.Made.{AreMade, AreSomeMade, IsMadeCall}
 use Rattle.job_round.specs.Plans.{AreWholePasses, IsWholePass, Pass, TakesUp, keys_in, pass_plan, passes_plan}
 use Rattle.job_round.specs.Rounds.{IsTask, cursor_put, round_plan}
-use Rattle.job_round.specs.States.{IsStored, at_in}
+use Rattle.job_round.specs.States.{IsStoredState, at_in}
 use Rattle.round_laws.proofs.Ids.{are_due}
 
 some_inside : {A : Type 0} (x y : A) → Some x ≡ Some y → x ≡ y
@@ -54,7 +54,7 @@ same_at (Some s) = refl
 
 -- the state that is read is the one that the area has
 told_state : (key : List ℕ) (target : ℕ) (found : Option (List ℕ)) (o p : Option StateDoc) → IfSome o IsStateValue → found ≡ option_map state_text o
-    → IsStored key target found p → o ≡ p
+    → IsStoredState key target found p → o ≡ p
 told_state key target found None None value e is = refl
 told_state key target found None (Some s) value e is = absurd (let no_ : None ≡ Some (state_text s) = sym e ∙ is.0 in let no : ⊥ = cc in no)
 told_state key target found (Some t) None value e is = absurd (let no_ : Some (state_text t) ≡ None = sym e ∙ is in let no : ⊥ = cc in no)
@@ -79,7 +79,7 @@ module _ (keeps : Keeps) (makes : Makes) (base : List ℕ) (staged : (base key :
   abbrev f : Fold
   f = fold_of keeps makes base
 
-  made_by : (call : Call) (made : StoreCall) → IsMade Q call made → IsMadeBy cs call made
+  made_by : (call : Call) (made : StoreCall) → IsMadeCall Q call made → IsMadeBy cs call made
   made_by (Put name (Made own)) made is = λ bytes has. is ∙ ap (store.Put name) (some_inside own bytes has)
   made_by (Put name (FromPublish number place nuspec)) made is = λ bytes has. is.1 ∙ ap (store.Put name) (is.2 cs meant bytes has)
   made_by (Remove name) made is = is

@@ -1,6 +1,6 @@
 // The five areas of a feed in a folder.
 ghost use Rattle.std.specs.Prelude.{◌++◌, codes, IfOk};
-ghost use Rattle.blob_dir.specs.Counted.{IsNewStore};
+ghost use Rattle.blob_dir.specs.Counted.{IsNewFolderStore};
 ghost use Rattle.blob_dir.specs.Locked.{access_of};
 
 use blob_dir::{DirBlobs, FolderLock};
@@ -16,7 +16,7 @@ fn area<R: Files + Drop>(
     name: &str,
     lock: &FolderLock,
 ) -> Result<DirBlobs<R>, NoMemory>
-    ensures { IfOk result (IsNewStore (folder.now ++ (codes "/" ++ name.now)) (access_of lock.now)) }
+    ensures { IfOk result (IsNewFolderStore (folder.now ++ (codes "/" ++ name.now)) (access_of lock.now)) }
 {
     let path = format!(in alloc; "{folder}/{name}")?;
     DirBlobs::locked(files, alloc, &path, lock)
@@ -29,11 +29,11 @@ pub fn stores<R: Files + Copy + Drop>(
     folder: &str,
     lock: &FolderLock,
 ) -> Result<Stores<DirBlobs<R>>, NoMemory>
-    ensures catalog { IfOk result (λ s. IsNewStore (folder.now ++ codes "/catalog") (access_of lock.now) s.catalog) }
-    ensures plain { IfOk result (λ s. IsNewStore (folder.now ++ codes "/plain") (access_of lock.now) s.plain) }
-    ensures semver2 { IfOk result (λ s. IsNewStore (folder.now ++ codes "/semver2") (access_of lock.now) s.semver2) }
-    ensures content { IfOk result (λ s. IsNewStore (folder.now ++ codes "/content") (access_of lock.now) s.content) }
-    ensures auto { IfOk result (λ s. IsNewStore (folder.now ++ codes "/auto") (access_of lock.now) s.auto) }
+    ensures catalog { IfOk result (λ s. IsNewFolderStore (folder.now ++ codes "/catalog") (access_of lock.now) s.catalog) }
+    ensures plain { IfOk result (λ s. IsNewFolderStore (folder.now ++ codes "/plain") (access_of lock.now) s.plain) }
+    ensures semver2 { IfOk result (λ s. IsNewFolderStore (folder.now ++ codes "/semver2") (access_of lock.now) s.semver2) }
+    ensures content { IfOk result (λ s. IsNewFolderStore (folder.now ++ codes "/content") (access_of lock.now) s.content) }
+    ensures auto { IfOk result (λ s. IsNewFolderStore (folder.now ++ codes "/auto") (access_of lock.now) s.auto) }
 {
     Ok(Stores {
         catalog: area(files, alloc, folder, "catalog", lock)?,

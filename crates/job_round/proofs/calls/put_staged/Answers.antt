@@ -4,7 +4,7 @@ use Rattle.catalog_core.specs.Opened.{IsOpenFor}
 use Rattle.fold_core.specs.declared.doc.Body.TheVariants.{Staged as FromPublish}
 use Rattle.id_pass.specs.declared.call.Call.TheVariants.{Put}
 use Rattle.job_round.specs.Items.{IsStagedAbsent}
-use Rattle.job_round.specs.Stops.{HaltsAt, IfDamaged}
+use Rattle.job_round.specs.Stops.{JobHaltsAt, IfDamaged}
 use Rattle.job_round.specs.declared.stop.Stop.{Stop}
 use Rattle.job_round.proofs.Halting.{halts_before}
 use Rattle.job_round.proofs.Making.{calls_one, read_body}
@@ -30,7 +30,7 @@ pub returns-in-Err-clause-runs : goal.returns-in-Err-clause-runs
 returns-in-Err-clause-runs g c = (
   [],
   tt,
-  subst (λ (s : Stop). HaltsAt [] s (g.B.Blobs.seen c.args.area.now) (g.B.Blobs.seen c.args.area.now)) (sym c.catalog_stop.ensures)
+  subst (λ (s : Stop). JobHaltsAt [] s (g.B.Blobs.seen c.args.area.now) (g.B.Blobs.seen c.args.area.now)) (sym c.catalog_stop.ensures)
       (halts_before [] _ (g.B.Blobs.seen c.args.area.now) (else_of_read c.in-Err.error) (g.met.B.Blobs.now c.args.area.now)),
 )
 

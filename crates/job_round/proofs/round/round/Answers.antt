@@ -2,7 +2,7 @@ use Rattle.std.proofs.Common.{[], ◌∷◌, ap, sym, ◌∙◌, Err, subst, inl
 use Rattle.std.proofs.lemmas.Result.{err_from_is_err_and}
 use Rattle.blob_store.specs.Events.{Get}
 use Rattle.cursor_doc.specs.Cursor.{cursor_name}
-use Rattle.job_round.specs.Stops.{HaltsAt, catalog_stop_of}
+use Rattle.job_round.specs.Stops.{JobHaltsAt, catalog_stop_of}
 use Rattle.job_round.specs.declared.stop.Stop.{Stop}
 use Rattle.job_round.proofs.Halting.{halts_behind}
 use Rattle.job_round.proofs.Rounding.{end_lost, round_ended, round_lost, round_taken, rows_lost}
@@ -16,7 +16,7 @@ returns-in_err-cursor-clause-stays g c =
 
 pub returns-in-Err-clause-runs : goal.returns-in-Err-clause-runs
 returns-in-Err-clause-runs g c =
-    inl (subst (λ (s : Stop). HaltsAt (Get cursor_name ∷ []) s (g.B.Blobs.seen c.args.area.now) (g.B.Blobs.seen c.cursor_in.new.area)) (sym c.catalog_stop.ensures)
+    inl (subst (λ (s : Stop). JobHaltsAt (Get cursor_name ∷ []) s (g.B.Blobs.seen c.args.area.now) (g.B.Blobs.seen c.cursor_in.new.area)) (sym c.catalog_stop.ensures)
     (halts_behind (Get cursor_name ∷ []) (catalog_stop_of c.in-Err.error) (g.B.Blobs.seen c.args.area.now) (g.B.Blobs.seen c.cursor_in.new.area) (else_of_read c.in-Err.error) c.in_ok-cursor.ensures.runs))
 
 pub returns-in-Err-clause-cause : goal.returns-in-Err-clause-cause
