@@ -22,10 +22,10 @@ pub data Reply : Type 0 where
 
 -- the reply to a store call of this fate, where that of one that is done is given
 abbrev pub told_of : Reply → Fate → Reply
-told_of fine Done = fine
-told_of fine FailedOld = Fault
-told_of fine FailedNew = Fault
-told_of fine NoMemory = Memory
+told_of usual Done = usual
+told_of usual FailedOld = Fault
+told_of usual FailedNew = Fault
+told_of usual NoMemory = Memory
 
 -- what a read finds
 abbrev pub found_at : Place → World → Reply

@@ -8,8 +8,8 @@ use Rattle.reg_docs.specs.declared.addresses.RegistrationHive.{RegistrationHive}
 use Rattle.reg_docs.specs.declared.addresses.RegistrationHive.TheVariants as the
 
 -- the key of an entry's version
-abbrev pub entry_key : Entry → List ℕ
-entry_key e = key_text (version_in e)
+abbrev pub key_in : Entry → List ℕ
+key_in e = key_text (version_in e)
 
 -- where a hive's documents are served, below the feed's base address
 abbrev pub root_of : List ℕ → RegistrationHive → List ℕ

@@ -11,7 +11,7 @@ use Rattle.catalog_doc.specs.Documents.{commit_id}
 use Rattle.fold_core.specs.Docs.{index_name}
 use Rattle.fold_core.specs.declared.doc.Body.TheVariants.{Made}
 use Rattle.fold_core.specs.declared.doc.Doc.{Doc}
-use Rattle.reg_docs.specs.Addresses.{registration_index_url, inlined_url, entry_key, registration_leaf_name, registration_leaf_url, package_url, registration_page_name, registration_page_url, root_of}
+use Rattle.reg_docs.specs.Addresses.{registration_index_url, inlined_url, key_in, registration_leaf_name, registration_leaf_url, package_url, registration_page_name, registration_page_url, root_of}
 use Rattle.reg_docs.specs.Entries.{reg_entry_data, item_url}
 use Rattle.reg_docs.specs.Pages.{cut, first_in, form_of, is_inlined, last_in}
 use Rattle.reg_docs.specs.declared.addresses.RegistrationHive.{RegistrationHive}
@@ -26,7 +26,7 @@ listed_object url entry content = object
 
 -- of an entry
 abbrev pub listed_data : List ℕ → List ℕ → List ℕ → Entry → Data
-listed_data base root key e = listed_object (registration_leaf_url root key (entry_key e)) (reg_entry_data base root e) (package_url base key (entry_key e))
+listed_data base root key e = listed_object (registration_leaf_url root key (key_in e)) (reg_entry_data base root e) (package_url base key (key_in e))
 
 -- a page with its versions: how many, and the first and the last of them
 abbrev pub registration_page_object : List ℕ → ℕ → List Data → List ℕ → List ℕ → List ℕ → Data
@@ -100,8 +100,8 @@ registration_leaf_object url entry listed content published registration = objec
 
 -- of an entry
 abbrev pub registration_leaf_data : List ℕ → List ℕ → List ℕ → Entry → Data
-registration_leaf_data base root key e = registration_leaf_object (registration_leaf_url root key (entry_key e)) (item_url base e) e.details.listed
-    (package_url base key (entry_key e)) (published_text e.details) (registration_index_url root key)
+registration_leaf_data base root key e = registration_leaf_object (registration_leaf_url root key (key_in e)) (item_url base e) e.details.listed
+    (package_url base key (key_in e)) (published_text e.details) (registration_index_url root key)
 
 -- the documents' bytes
 unfoldable pub registration_index_text : List ℕ → List ℕ → List ℕ → ℕ → ℕ → List Entry → List ℕ
@@ -132,7 +132,7 @@ registration_page_docs base root key es = if is_inlined es then [] else map (reg
 
 -- the leaf of a version
 abbrev pub registration_leaf_doc : List ℕ → List ℕ → List ℕ → Entry → Doc
-registration_leaf_doc base root key e = record { name = registration_leaf_name key (entry_key e); body = Made (registration_leaf_text base root key e) }
+registration_leaf_doc base root key e = record { name = registration_leaf_name key (key_in e); body = Made (registration_leaf_text base root key e) }
 
 -- the index, the stored pages and the leaves, none for no entries
 abbrev pub docs_below : List ℕ → List ℕ → List ℕ → ℕ → ℕ → List Entry → List Doc

@@ -17,7 +17,7 @@ use Rattle.pkg_meta.specs.Entries.{AreRising, version_in}
 use Rattle.fold_core.specs.Laws.{AreOfEntries, AreOwned, HaveOwnNames, IsOfEntry, IsWhole}
 use Rattle.fold_core.specs.declared.doc.Doc.{Doc}
 use Rattle.pkg_meta.specs.declared.entry.Entry.{Entry}
-use Rattle.reg_docs.specs.Addresses.{entry_key, root_of}
+use Rattle.reg_docs.specs.Addresses.{key_in, root_of}
 use Rattle.reg_docs.specs.Documents.{docs_below, registration_index_doc, registration_leaf_doc, registration_page_doc, registration_page_docs, registration_docs}
 use Rattle.reg_docs.specs.Pages.{cut, cut_within, first_in, form_of, is_inlined, last_in}
 use Rattle.reg_docs.specs.declared.addresses.RegistrationHive.{RegistrationHive}
@@ -66,7 +66,7 @@ docs_indexed hive base key number stamp (e ∷ es) some =
 
 -- the names behind a key's folder
 abbrev leaf_end : Entry → List ℕ
-leaf_end e = entry_key e ++ codes ".json"
+leaf_end e = key_in e ++ codes ".json"
 
 abbrev page_end : List Entry → List ℕ
 page_end run = codes "page/" ++ (form_of key_text (first_in run) ++ (codes "/" ++ (form_of key_text (last_in run) ++ codes ".json")))
@@ -94,12 +94,12 @@ none_of_pages base root key r (run ∷ runs) other = (apart key r _ other.0, non
 inside : (x y : List ℕ) → Some x ≡ Some y → x ≡ y
 inside x y e = cc
 
-before_end : (e : Entry) (rest : List ℕ) → before_slash (entry_key e ++ (codes "/" ++ rest)) ≡ Some (entry_key e)
-before_end e rest = whole_front (entry_key e) rest (key-no_slash (version_in e))
+before_end : (e : Entry) (rest : List ℕ) → before_slash (key_in e ++ (codes "/" ++ rest)) ≡ Some (key_in e)
+before_end e rest = whole_front (key_in e) rest (key-no_slash (version_in e))
 
 -- leaves of rising versions have names of their own
 other_leaf : (e f : Entry) → precedence (version_in e) (version_in f) ≡ Less → leaf_end e ≢ leaf_end f
-other_leaf e f less same = other_key e f less (append_cancel_right (entry_key e) (entry_key f) (codes ".json") same)
+other_leaf e f less same = other_key e f less (append_cancel_right (key_in e) (key_in f) (codes ".json") same)
 
 leaves_apart : (base root key : List ℕ) (e : Entry) (es : List Entry) → AllByRecursion (λ w. precedence (version_in e) w ≡ Less) (map version_in es)
     → AllByRecursion (λ y. bytes_eq (name_of key (leaf_end e)) y ≡ false) (map (λ (d : Doc). d.name) (map (registration_leaf_doc base root key) es))
@@ -137,16 +137,16 @@ runs_above v (suc n) (e ∷ es) below =
     (record { first = e; is_first = refl; above = below.0 }, runs_above v n (drop 63 es) (all_dropped (λ w. precedence v w ≡ Less) 63 es below.1))
 
 -- so their pages have other names
-other_page : (e : Entry) (rest : List ℕ) (run : List Entry) → IsAbove (version_in e) run → codes "page/" ++ (entry_key e ++ (codes "/" ++ rest)) ≢ page_end run
+other_page : (e : Entry) (rest : List ℕ) (run : List Entry) → IsAbove (version_in e) run → codes "page/" ++ (key_in e ++ (codes "/" ++ rest)) ≢ page_end run
 other_page e rest run is same =
     let f = is.first in
     let more = form_of key_text (last_in run) ++ codes ".json" in
-    let its : page_end run ≡ codes "page/" ++ (entry_key f ++ (codes "/" ++ more)) = ap (λ (o : Option Entry). codes "page/" ++ (form_of key_text o ++ (codes "/" ++ more))) is.is_first in
-    let ends : entry_key e ++ (codes "/" ++ rest) ≡ entry_key f ++ (codes "/" ++ more) = append_cancel_left (codes "page/") _ _ (same ∙ its) in
-    other_key e f is.above (inside (entry_key e) (entry_key f) (sym (before_end e rest) ∙ ap before_slash ends ∙ before_end f more))
+    let its : page_end run ≡ codes "page/" ++ (key_in f ++ (codes "/" ++ more)) = ap (λ (o : Option Entry). codes "page/" ++ (form_of key_text o ++ (codes "/" ++ more))) is.is_first in
+    let ends : key_in e ++ (codes "/" ++ rest) ≡ key_in f ++ (codes "/" ++ more) = append_cancel_left (codes "page/") _ _ (same ∙ its) in
+    other_key e f is.above (inside (key_in e) (key_in f) (sym (before_end e rest) ∙ ap before_slash ends ∙ before_end f more))
 
 others_of_runs : (e : Entry) (rest : List ℕ) (runs : List (List Entry)) → AllByRecursion (IsAbove (version_in e)) runs
-    → AllByRecursion (λ run. codes "page/" ++ (entry_key e ++ (codes "/" ++ rest)) ≢ page_end run) runs
+    → AllByRecursion (λ run. codes "page/" ++ (key_in e ++ (codes "/" ++ rest)) ≢ page_end run) runs
 others_of_runs e rest [] above = tt
 others_of_runs e rest (run ∷ runs) above = (other_page e rest run above.0, others_of_runs e rest runs above.1)
 

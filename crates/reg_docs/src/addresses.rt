@@ -1,7 +1,7 @@
 // Where documents are served, and their names.
 ghost use Rattle.std.specs.Prelude.{◌≡◌, IfOk, string_bytes};
 ghost use Rattle.fold_core.specs.Docs as docs;
-ghost use Rattle.reg_docs.specs.Addresses.{registration_index_url, inlined_url, entry_key, registration_leaf_name, registration_leaf_url, package_url, registration_page_name, registration_page_url, root_of};
+ghost use Rattle.reg_docs.specs.Addresses.{registration_index_url, inlined_url, key_in, registration_leaf_name, registration_leaf_url, package_url, registration_page_name, registration_page_url, root_of};
 
 use fold_core::{Entry, NoMemory, Text};
 use std::alloc::{AllocError, Global};
@@ -13,8 +13,8 @@ pub enum RegistrationHive {
     SemVer2,
 }
 
-pub(crate) fn entry_key(alloc: Global, entry: &Entry) -> Result<Text, NoMemory>
-    ensures { IfOk result (λ key. key ≡ entry_key entry.now) }
+pub(crate) fn key_in(alloc: Global, entry: &Entry) -> Result<Text, NoMemory>
+    ensures { IfOk result (λ key. key ≡ key_in entry.now) }
 {
     entry.details.meta.version.key(alloc)
 }
