@@ -205,6 +205,12 @@ for path in /v3/catalog/page1.json /v3/catalog/data/2/0.json /v3/catalog/staged/
   refuses 'a get of nothing' 3 'refused missing' get "$path"
 done
 
+refuses 'another base address' 3 'refused base http://f.test/ http://g.test/' get --base=http://g.test/ /v3/index.json
+refuses 'another base address, as two words' 3 'refused base http://f.test/ http://g.test/' job plain --base http://g.test/
+refuses 'a job of the own base address puts nothing' 0 'idle plain 1' job plain --base=http://f.test/
+refuses 'a base of another form' 2 "$usage" publish --base=x
+refuses 'an option twice' 2 "$usage" publish --base=http://f.test/ --base=http://f.test/
+refuses 'a word that begins with a dash' 2 "$usage" delete Foo -1
 refuses 'no word that is known' 2 "$usage" dance
 refuses 'a job of no hive' 2 "$usage" job red
 refuses 'a cursor of no hive' 2 "$usage" cursor catalog
@@ -218,6 +224,14 @@ status=$?
 printf '%s\n' "$usage" >"$work/want"
 answered 2
 check 'an empty folder is no folder'
+# told WORD LINE: a lone word is answered with status 0, and its text has this line.
+told() {
+  "$feed" "$1" <"$work/nothing" >"$work/output" 2>"$work/errors"
+  [ "$?" -eq 0 ] && grep -q -x -F -e "$2" "$work/output" && [ ! -s "$work/errors" ]
+  check "$1"
+}
+told --help 'status 2  the words have no meaning'
+told --version 'feed, unreleased'
 refuses 'init with a base of another form' 2 "$usage" init http://f.test
 
 # What is left is exactly these files, so no temporary one.

@@ -9,3 +9,5 @@ mod commands;
 mod failures;
 #[cfg(test)]
 mod jobs;
+#[cfg(test)]
+mod words;

@@ -5,7 +5,7 @@ use Rattle.admin_wire.specs.declared.line.Line.TheVariants as line
 use Rattle.admin_wire.specs.declared.area.AreaName.{AreaName}
 use Rattle.feed_app.specs.Accepts.{Accepts}
 use Rattle.feed_app.specs.Answers.{answer_status}
-use Rattle.feed_app.specs.Commands.{Command, Init, Get, Publish, Names, Job, Cursor, command_of}
+use Rattle.feed_app.specs.Commands.{Command, Init, Get, Publish, Names, Job, Cursor, base_of, command_of}
 use Rattle.feed_app.specs.Does.{Does, meaning, reach_of}
 use Rattle.feed_app.specs.Frame.{Explains, HasLost, IsDone, KeepsAreas, Meaning, Touches, most_input, touch_of}
 use Rattle.feed_app.specs.Outside.{AreaRose, Bounds, Members, Outside, Rose, Shows, Sight, Stream, area_of, input_of, output_of, sight}
@@ -100,17 +100,17 @@ module _ {B I O C : Type 0} (b : Bounds B I O C) (words : List (List ℕ)) (befo
   pub zero_answer : status ≡ 0 → answer_status run.answer ≡ 0
   zero_answer is = its_status (λ e. omega (arith, is, e)) (λ e. omega (arith, is, e)) ∙ is
 
-  its_cause : answer_status run.answer ≢ 2 → answer_status run.answer ≢ 8 → ByCommand b.blobs (sight b before) (sight b after) (command_of words) run.answer
-  its_cause other no8 = by_command b.blobs (sight b before) (sight b after) (command_of words) run.answer run.does other no8
+  its_cause : answer_status run.answer ≢ 2 → answer_status run.answer ≢ 8 → ByCommand b.blobs (sight b (base_of words) before) (sight b (base_of words) after) (command_of words) run.answer
+  its_cause other no8 = by_command b.blobs (sight b (base_of words) before) (sight b (base_of words) after) (command_of words) run.answer run.does other no8
 
   pub usage_only : status ≡ 2 → command_of words ≡ None
   usage_only is =
-      usage_does b.blobs (sight b before) (sight b after) (command_of words)
-      (subst (λ (a : Answer). Does b.blobs (command_of words) (sight b before) a (sight b after))
+      usage_does b.blobs (sight b (base_of words) before) (sight b (base_of words) after) (command_of words)
+      (subst (λ (a : Answer). Does b.blobs (command_of words) (sight b (base_of words) before) a (sight b (base_of words) after))
       (is_usage run.answer (its_status (λ e. omega (arith, is, e)) (λ e. omega (arith, is, e)) ∙ is)) run.does)
 
-  nothing_done : command_of words ≡ None → ((run.answer ≡ Usage) ⊎ (run.answer ≡ Reply line.Memory)) × (sight b after ≡ sight b before)
-  nothing_done none = subst (λ (o : Option Command). Does b.blobs o (sight b before) run.answer (sight b after)) none run.does
+  nothing_done : command_of words ≡ None → ((run.answer ≡ Usage) ⊎ (run.answer ≡ Reply line.Memory)) × (sight b (base_of words) after ≡ sight b (base_of words) before)
+  nothing_done none = subst (λ (o : Option Command). Does b.blobs o (sight b (base_of words) before) run.answer (sight b (base_of words) after)) none run.does
 
   pub untouched : command_of words ≡ None → after.stores ≡ before.stores
   untouched none = ap (λ (s : Sight B). s.stores) (nothing_done none).1
@@ -131,7 +131,7 @@ module _ {B I O C : Type 0} (b : Bounds B I O C) (words : List (List ℕ)) (befo
       let kind : answer_status run.answer ≡ 4 = its_status (λ e. omega (arith, is, e)) (λ e. omega (arith, is, e)) ∙ is in
       let cause = its_cause (λ e. omega (arith, kind, e)) (λ e. omega (arith, kind, e)) in
       let fault = is_fault run.answer kind in
-      let why = subst (λ (a : Answer). Explains b.blobs (meaning b.blobs cause.0).reach (sight b before) a (sight b after)) fault.1 cause.2 in
+      let why = subst (λ (a : Answer). Explains b.blobs (meaning b.blobs cause.0).reach (sight b (base_of words) before) a (sight b (base_of words) after)) fault.1 cause.2 in
       (fault.0, (cause.0, cause.1, why.0), why.1)
 
   pub stream_fault : status ≡ 5 → Rose (input_of b.source before.input) (input_of b.source after.input)
@@ -140,7 +140,7 @@ module _ {B I O C : Type 0} (b : Bounds B I O C) (words : List (List ℕ)) (befo
       (λ all.
       let kind : answer_status run.answer ≡ 5 = sym all.number ∙ is in
       let cause = its_cause (λ e. omega (arith, kind, e)) (λ e. omega (arith, kind, e)) in
-      let why = subst (λ (a : Answer). Explains b.blobs (meaning b.blobs cause.0).reach (sight b before) a (sight b after))
+      let why = subst (λ (a : Answer). Explains b.blobs (meaning b.blobs cause.0).reach (sight b (base_of words) before) a (sight b (base_of words) after))
       (is_input_fault run.answer kind) cause.2 in
       inl why.1)
       (λ other. ⊎_elim (λ memory. absurd (omega (arith, is, memory.number))) (λ prefix. inr prefix.rose) other) run.writes
@@ -150,7 +150,7 @@ module _ {B I O C : Type 0} (b : Bounds B I O C) (words : List (List ℕ)) (befo
       let kind : answer_status run.answer ≡ 6 = its_status (λ e. omega (arith, is, e)) (λ e. omega (arith, is, e)) ∙ is in
       let cause = its_cause (λ e. omega (arith, kind, e)) (λ e. omega (arith, kind, e)) in
       let lost = is_damage run.answer kind in
-      let why = subst (λ (a : Answer). Explains b.blobs (meaning b.blobs cause.0).reach (sight b before) a (sight b after)) lost.2 cause.2 in
+      let why = subst (λ (a : Answer). Explains b.blobs (meaning b.blobs cause.0).reach (sight b (base_of words) before) a (sight b (base_of words) after)) lost.2 cause.2 in
       (cause.0, cause.1, (lost.0, lost.1, why.0, why.1))
 
   pub too_long : status ≡ 7 → (command : Command) × (command_of words ≡ Some command) × Touches (meaning b.blobs command).reach.input
@@ -158,11 +158,11 @@ module _ {B I O C : Type 0} (b : Bounds B I O C) (words : List (List ℕ)) (befo
   too_long is =
       let kind : answer_status run.answer ≡ 7 = its_status (λ e. omega (arith, is, e)) (λ e. omega (arith, is, e)) ∙ is in
       let cause = its_cause (λ e. omega (arith, kind, e)) (λ e. omega (arith, kind, e)) in
-      let why = subst (λ (a : Answer). Explains b.blobs (meaning b.blobs cause.0).reach (sight b before) a (sight b after)) (is_long run.answer kind) cause.2 in
+      let why = subst (λ (a : Answer). Explains b.blobs (meaning b.blobs cause.0).reach (sight b (base_of words) before) a (sight b (base_of words) after)) (is_long run.answer kind) cause.2 in
       (cause.0, cause.1, why.0, why.1)
 
-  pub done : (command : Command) → command_of words ≡ Some command → IsDone b.blobs (meaning b.blobs command) (sight b before) run.answer (sight b after)
-  done command is = subst (λ (o : Option Command). Does b.blobs o (sight b before) run.answer (sight b after)) is run.does
+  pub done : (command : Command) → command_of words ≡ Some command → IsDone b.blobs (meaning b.blobs command) (sight b (base_of words) before) run.answer (sight b (base_of words) after)
+  done command is = subst (λ (o : Option Command). Does b.blobs o (sight b (base_of words) before) run.answer (sight b (base_of words) after)) is run.does
 
   pub keeps : (command : Command) → command_of words ≡ Some command → KeepsAreas b.blobs (meaning b.blobs command).reach before.stores after.stores
   keeps command is = (done command is).keeps
@@ -171,7 +171,7 @@ module _ {B I O C : Type 0} (b : Bounds B I O C) (words : List (List ℕ)) (befo
   complete ready quiet =
       let calm = subst (λ (o : Option Command). Quiet b (reach_of b.blobs o) before after) ready.1 quiet in
       let well : IsGood (answer_status run.answer) =
-      good b.blobs (sight b before) (sight b after) (meaning b.blobs ready.0) run.answer (accepts b.blobs ready.0) ready.2 calm.areas calm.input
+      good b.blobs (sight b (base_of words) before) (sight b (base_of words) after) (meaning b.blobs ready.0) run.answer (accepts b.blobs ready.0) ready.2 calm.areas calm.input
       (done ready.0 ready.1) in
       ⊎_elim (λ all. ⊎_elim (λ zero. inl (all.number ∙ zero)) (λ eight. inr (all.number ∙ eight)) well)
       (λ other. ⊎_elim (λ memory. inr memory.number) (λ prefix. absurd (quiet.output prefix.rose)) other) run.writes

@@ -12,6 +12,7 @@ use Rattle.feed_app.specs.Answers.{answer_status}
 use Rattle.feed_app.specs.Commands.{Pair}
 use Rattle.feed_app.specs.Frame.{Explains}
 use Rattle.feed_app.specs.Names.{AreAsked, CanTakeNames, CommitsNames, NotAsked, NotRead, names_meaning}
+use Rattle.feed_app.specs.Openings.{MayOpen}
 use Rattle.feed_app.specs.Outside.{Members, Sight, held}
 use Rattle.feed_app.specs.Spelled.{HasCatalog, HoldsCatalog}
 use Rattle.feed_app.specs.declared.answer.Answer.{Answer}
@@ -67,7 +68,7 @@ all_asked answer kind pairs changes all first three =
 
 module _ {B : Type 0} (m : Members B) (kind : NameKind) (pairs : List Pair) (before after : Sight B) (area : Area)
     (there : held m before.stores.catalog ≡ Some area)
-    (can : CanTakeNames area kind pairs) where
+    (can : CanTakeNames area kind pairs) (may : MayOpen before.given (m.seen before.stores.catalog)) where
   abbrev its : HoldsCatalog area
   its = can.0
 
@@ -77,7 +78,7 @@ module _ {B : Type 0} (m : Members B) (kind : NameKind) (pairs : List Pair) (bef
   refused : (answer : Answer) → CommitsNames m kind pairs before answer after → answer_status answer ≡ 3 → ⊥
   refused answer (inl (first, same, unasked)) three = all_asked answer kind pairs can.1.0 can.1.1 first three
   refused answer (inr (changes, asked, ends)) three =
-      end_taken m before after its.0 its.1 changes before.clock after.clock its_catalog
+      end_taken m before after its.0 its.1 changes before.clock after.clock its_catalog may
       (λ now. can.2 its.0 its.1 changes now its.2 its.3 asked) answer ends three
 
   undamaged : (answer : Answer) → CommitsNames m kind pairs before answer after → answer_status answer ≡ 6 → ⊥
@@ -86,7 +87,7 @@ module _ {B : Type 0} (m : Members B) (kind : NameKind) (pairs : List Pair) (bef
 
 pub names_accepts : {B : Type 0} (m : Members B) (kind : NameKind) (pairs : List Pair) → Accepts (names_meaning m kind pairs)
 names_accepts m kind pairs = record {
-  refused = λ before after answer ready acts. refused m kind pairs before after ready.0 ready.1 ready.2 answer acts;
-  sound = λ before after answer ready acts. undamaged m kind pairs before after ready.0 ready.1 ready.2 answer acts;
+  refused = λ before after answer ready acts. refused m kind pairs before after ready.1.0 ready.1.1 ready.1.2 ready.0 answer acts;
+  sound = λ before after answer ready acts. undamaged m kind pairs before after ready.1.0 ready.1.1 ready.1.2 ready.0 answer acts;
   fits = λ before ready touched. absurd touched;
 }

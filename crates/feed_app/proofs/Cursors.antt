@@ -18,11 +18,12 @@ use Rattle.feed_app.specs.Causes.{AnswersStop}
 use Rattle.feed_app.specs.Cursors.{Cursors, TellsCursor, cursor_meaning, cursor_reach}
 use Rattle.feed_app.specs.Damages.{IsLostOfHive}
 use Rattle.feed_app.specs.Frame.{Explains, IsDone, KeepsAreas}
+use Rattle.feed_app.specs.Openings.{MayOpen}
 use Rattle.feed_app.specs.Outside.{AreaRose, Members, Shows, Sight, area_of, held}
 use Rattle.feed_app.specs.Spelled.{HasCatalog, HoldsCatalog, IsSpelled}
 use Rattle.feed_app.specs.declared.answer.Answer.{Answer}
 use Rattle.feed_app.specs.declared.answer.Answer.TheVariants.{Reply}
-use Rattle.feed_app.proofs.Closed.{closed_explains, of_store_not}
+use Rattle.feed_app.proofs.Closed.{closed_explains, closed_store}
 use Rattle.feed_app.proofs.OneHive.{cursor_touches, cursor_unread}
 
 -- the number is told, or why not
@@ -78,16 +79,16 @@ module _ {B : Type 0} (m : Members B) (hive : HiveName) (before after : Sight B)
   tells_explains (Reply line.Memory) same other is = tt
   tells_explains _ same other is = absurd is
 
-  explains : (answer : Answer) (untouched : Type 0) → Left ≡ Held → CatalogCause answer → HiveCause answer
-      → Cursors hive answer Told untouched Held → Explained answer
-  explains answer untouched same rose other (inl (closed, kept)) =
-      closed_explains m (cursor_reach hive) before after answer (cursor_touches hive).0 rose closed
-  explains answer untouched same rose other (inr tells) = tells_explains answer same other tells
+  explains : (given : Option (List ℕ)) (now : Seen) (answer : Answer) (untouched : Type 0) → Left ≡ Held → CatalogCause answer → HiveCause answer
+      → Cursors given hive answer Told now untouched Held → Explained answer
+  explains given now answer untouched same rose other (inl (closed, kept)) =
+      closed_explains m (cursor_reach hive) before after given now answer (cursor_touches hive).0 rose closed
+  explains given now answer untouched same rose other (inr (may, tells)) = tells_explains answer same other tells
 
   -- the cursor of a hive was asked for
   pub cursor_done : (answer : Answer) → KeepsAreas m (cursor_reach hive) before.stores after.stores → Left ≡ Held → CatalogCause answer → HiveCause answer
       → (cursor_meaning m hive).acts before answer after → IsDone m (cursor_meaning m hive) before answer after
-  cursor_done answer keeps same rose other is = record { keeps = keeps; explains = explains answer _ same rose other is; acts = is }
+  cursor_done answer keeps same rose other is = record { keeps = keeps; explains = explains before.given (m.seen after.stores.catalog) answer _ same rose other is; acts = is }
 
 -- a cursor that tells a number isn't damaged
 module _ (hive : HiveName) (told : Option Area) (blobs : Area) (kept : told ≡ Some blobs) (number : ℕ) (is_cursor : IsCursor (get blobs cursor_name) number) where
@@ -110,31 +111,31 @@ module _ (hive : HiveName) (told : Option Area) (blobs : Area) (kept : told ≡ 
   not_damaged (Reply line.Memory) is six = omega (arith, six)
   not_damaged _ is six = is
 
-abbrev IsReady : Seen → Option Area → Type 0
-IsReady told area = Shows told.held HoldsCatalog × Shows area (λ blobs. (n : ℕ) × IsCursor (get blobs cursor_name) n)
+abbrev IsReady : Option (List ℕ) → Seen → Option Area → Type 0
+IsReady given told area = MayOpen given told × Shows told.held HoldsCatalog × Shows area (λ blobs. (n : ℕ) × IsCursor (get blobs cursor_name) n)
 
-module _ (hive : HiveName) (told : Seen) (area : Option Area) (untouched : Type 0) (ready : IsReady told area) where
-  abbrev its : HoldsCatalog ready.0.0
-  its = ready.0.2
+module _ (given : Option (List ℕ)) (hive : HiveName) (told later : Seen) (area : Option Area) (untouched : Type 0) (ready : IsReady given told area) where
+  abbrev its : HoldsCatalog ready.1.0
+  its = ready.1.2
 
   its_catalog : HasCatalog told its.0 its.1
-  its_catalog = record { lawful = its.2; store = (ready.0.0, ready.0.1, its.3) }
+  its_catalog = record { lawful = its.2; store = (ready.1.0, ready.1.1, its.3) }
 
-  refused : (answer : Answer) → Cursors hive answer told untouched area → answer_status answer ≡ 3 → ⊥
+  refused : (answer : Answer) → Cursors given hive answer told later untouched area → answer_status answer ≡ 3 → ⊥
   refused answer (inl (closed, same)) three =
-      of_store_not answer 3 (closed.of_store its.0 its.1 its_catalog) three (λ e. omega (arith, e)) (λ e. omega (arith, e))
-  refused answer (inr tells) three = not_refused hive area ready.1.0 ready.1.1 ready.1.2.0 ready.1.2.1 answer tells three
+      closed_store given answer told later closed its.0 its.1 its_catalog ready.0 3 three (λ e. omega (arith, e)) (λ e. omega (arith, e))
+  refused answer (inr (may, tells)) three = not_refused hive area ready.2.0 ready.2.1 ready.2.2.0 ready.2.2.1 answer tells three
 
-  sound : (answer : Answer) → Cursors hive answer told untouched area → answer_status answer ≡ 6 → ⊥
+  sound : (answer : Answer) → Cursors given hive answer told later untouched area → answer_status answer ≡ 6 → ⊥
   sound answer (inl (closed, same)) six =
-      of_store_not answer 6 (closed.of_store its.0 its.1 its_catalog) six (λ e. omega (arith, e)) (λ e. omega (arith, e))
-  sound answer (inr tells) six = not_damaged hive area ready.1.0 ready.1.1 ready.1.2.0 ready.1.2.1 answer tells six
+      closed_store given answer told later closed its.0 its.1 its_catalog ready.0 6 six (λ e. omega (arith, e)) (λ e. omega (arith, e))
+  sound answer (inr (may, tells)) six = not_damaged hive area ready.2.0 ready.2.1 ready.2.2.0 ready.2.2.1 answer tells six
 
 pub cursor_accepts : {B : Type 0} (m : Members B) (hive : HiveName) → Accepts (cursor_meaning m hive)
 cursor_accepts m hive = record {
   refused = λ before after answer ready acts.
-      refused hive (m.seen before.stores.catalog) (held m (area_of before.stores (area.Hive hive))) _ ready answer acts;
+      refused before.given hive (m.seen before.stores.catalog) (m.seen after.stores.catalog) (held m (area_of before.stores (area.Hive hive))) _ ready answer acts;
   sound = λ before after answer ready acts.
-      sound hive (m.seen before.stores.catalog) (held m (area_of before.stores (area.Hive hive))) _ ready answer acts;
+      sound before.given hive (m.seen before.stores.catalog) (m.seen after.stores.catalog) (held m (area_of before.stores (area.Hive hive))) _ ready answer acts;
   fits = λ before ready touched. absurd (cursor_unread hive touched);
 }

@@ -17,7 +17,7 @@ use Rattle.feed_app.specs.Answers.{answer_status}
 use Rattle.feed_app.specs.Frame.{Explains}
 use Rattle.feed_app.specs.Gets.{Gets, HasCatalogDocument, HasHiveDocument, HasIndex, HoldsDocument, HoldsServiceIndex, IsHeld, OfCatalog, OfDocument, OfHive, AnswersPath, get_meaning}
 use Rattle.feed_app.specs.Hives.{hive_area, hive_stores}
-use Rattle.feed_app.specs.Openings.{IsOfStore, NotOpened}
+use Rattle.feed_app.specs.Openings.{IsOfStore, MayOpen, NotOpened}
 use Rattle.feed_app.specs.Outside.{AreaRose, Members, Shows, Sight, held}
 use Rattle.feed_app.specs.Spelled.{HasCatalog, HoldsCatalog, Of}
 use Rattle.feed_app.specs.Targets.{IsCatalogPath, IsHivePath, IsIndexPath, hive_ask}
@@ -25,7 +25,7 @@ use Rattle.feed_routes.specs.declared.ask.Ask.TheVariants as ask
 use Rattle.feed_app.specs.declared.answer.Answer.{Answer}
 use Rattle.feed_app.specs.declared.answer.Answer.TheVariants.{Reply, Document}
 use Rattle.feed_app.proofs.Absent.{one_value, some_none}
-use Rattle.feed_app.proofs.Closed.{closed_explains}
+use Rattle.feed_app.proofs.Closed.{closed_explains, of_store}
 use Rattle.feed_app.proofs.Places.{by_area, get_touches}
 use Rattle.feed_app.proofs.Asked.{catalog_hive, catalog_index, catalog_server, hive_index, hive_server, index_server, same_hive, same_name}
 
@@ -61,14 +61,16 @@ module _ {B : Type 0} (m : Members B) (path : List ℕ) (before after : Sight B)
   hive_explains hive (Reply line.Memory) rest told names rose is = tt
   hive_explains hive _ rest told names rose is = absurd is
 
-  pub explains : (answer : Answer) (old new : ServedHive → B) → CatalogCause answer → HiveCause answer → Gets m answer path Told old new → Explained answer
-  explains answer old new rose other (inl (closed, same)) = closed_explains m (get_meaning m path).reach before after answer tt rose closed
-  explains answer old new rose other (inr (inl (hive, rest, names, is, others))) = hive_explains hive answer rest (held m (old hive)) names other is
-  explains answer old new rose other (inr (inr (same, inl (name, names, is)))) = catalog_explains answer name rose is
-  explains answer old new rose other (inr (inr (same, inr (inl (names, (bytes, is, texts)))))) = subst Explained (sym is) tt
-  explains answer old new rose other (inr (inr (same, inr (inr (inl server))))) = subst Explained (sym server.1) tt
-  explains answer old new rose other (inr (inr (same, inr (inr (inr (inl unknown)))))) = subst Explained (sym unknown.1) tt
-  explains answer old new rose other (inr (inr (same, inr (inr (inr (inr memory)))))) = subst Explained (sym memory) tt
+  pub explains : (given : Option (List ℕ)) (now : Seen) (answer : Answer) (old new : ServedHive → B) → CatalogCause answer → HiveCause answer
+      → Gets m given answer path Told now old new → Explained answer
+  explains given now answer old new rose other (inl (closed, same)) =
+      closed_explains m (get_meaning m path).reach before after given now answer tt rose closed
+  explains given now answer old new rose other (inr (may, inl (hive, rest, names, is, others))) = hive_explains hive answer rest (held m (old hive)) names other is
+  explains given now answer old new rose other (inr (may, inr (same, inl (name, names, is)))) = catalog_explains answer name rose is
+  explains given now answer old new rose other (inr (may, inr (same, inr (inl (names, (bytes, is, texts)))))) = subst Explained (sym is) tt
+  explains given now answer old new rose other (inr (may, inr (same, inr (inr (inl server))))) = subst Explained (sym server.1) tt
+  explains given now answer old new rose other (inr (may, inr (same, inr (inr (inr (inl unknown)))))) = subst Explained (sym unknown.1) tt
+  explains given now answer old new rose other (inr (may, inr (same, inr (inr (inr (inr memory)))))) = subst Explained (sym memory) tt
 
 of_as : (answer : Answer) (name : List ℕ) (Is Are : Of) → ((base : List ℕ) (cs : Catalog) → Are base cs → Is base cs) → OfCatalog answer name Is
     → OfCatalog answer name Are
@@ -161,33 +163,39 @@ module _ {B : Type 0} (m : Members B) (path bytes : List ℕ) (before after : Si
   abbrev Acts : Type 0
   Acts = (get_meaning m path).acts before answer after
 
-  closed_held : Shows (held m before.stores.catalog) HoldsCatalog → NotOpened answer (m.seen before.stores.catalog) → IsGood area.Catalog bytes answer
-  closed_held has closed = of_store_good answer bytes (closed.of_store has.2.0 has.2.1 (record { lawful = has.2.2; store = (has.0, has.1, has.2.3) }))
+  abbrev May : Type 0
+  May = MayOpen before.given (m.seen before.stores.catalog)
 
-  pub catalog_held : HasCatalogDocument path bytes (held m before.stores.catalog) → Acts → IsGood area.Catalog bytes answer
-  catalog_held has (inl closed) = let holds = has.2.2 in closed_held (has.2.0, has.2.1, (holds.0, holds.1, holds.2, holds.3)) closed.0
-  catalog_held has (inr reads) =
+  closed_held : May → Shows (held m before.stores.catalog) HoldsCatalog
+      → NotOpened before.given answer (m.seen before.stores.catalog) (m.seen after.stores.catalog) → IsGood area.Catalog bytes answer
+  closed_held may has closed = of_store_good answer bytes
+      (of_store before.given answer (m.seen before.stores.catalog) (m.seen after.stores.catalog) closed has.2.0 has.2.1
+      (record { lawful = has.2.2; store = (has.0, has.1, has.2.3) }) may)
+
+  pub catalog_held : May → HasCatalogDocument path bytes (held m before.stores.catalog) → Acts → IsGood area.Catalog bytes answer
+  catalog_held may has (inl closed) = let holds = has.2.2 in closed_held may (has.2.0, has.2.1, (holds.0, holds.1, holds.2, holds.3)) closed.0
+  catalog_held may has (inr (allowed, reads)) =
       by_catalog m answer path bytes (m.seen before.stores.catalog) (hive_stores before.stores)
       (hive_stores after.stores) has.0 has.2.0 has.2.1 has.2.2 has.1 reads
 
-  pub index_held : HasIndex path bytes (held m before.stores.catalog) → Acts → IsGood area.Catalog bytes answer
-  index_held has (inl closed) = let holds = has.1.2 in closed_held (has.1.0, has.1.1, (holds.0, holds.1, holds.2, holds.3)) closed.0
-  index_held has (inr reads) =
+  pub index_held : May → HasIndex path bytes (held m before.stores.catalog) → Acts → IsGood area.Catalog bytes answer
+  index_held may has (inl closed) = let holds = has.1.2 in closed_held may (has.1.0, has.1.1, (holds.0, holds.1, holds.2, holds.3)) closed.0
+  index_held may has (inr (allowed, reads)) =
       by_index m answer path bytes (m.seen before.stores.catalog) (hive_stores before.stores)
       (hive_stores after.stores) has.1.0 has.1.1 has.1.2 has.0 reads
 
-  pub hive_held : (hive : ServedHive) → HasHiveDocument hive path bytes (held m before.stores.catalog)
+  pub hive_held : May → (hive : ServedHive) → HasHiveDocument hive path bytes (held m before.stores.catalog)
       (held m (hive_stores before.stores hive)) → Acts
       → IsGood area.Catalog bytes answer ⊎ IsGood (hive_area hive) bytes answer
-  hive_held hive has (inl closed) = inl (closed_held has.2 closed.0)
-  hive_held hive has (inr reads) =
+  hive_held may hive has (inl closed) = inl (closed_held may has.2 closed.0)
+  hive_held may hive has (inr (allowed, reads)) =
       inr (by_name m answer path bytes (m.seen before.stores.catalog) (hive_stores before.stores)
       (hive_stores after.stores) hive has.0 has.3.0 has.3.1 has.3.2 has.1 reads)
 
-  answers : IsHeld m path bytes before → Acts → IsDocument bytes answer
-  answers (inl has) acts = inl (catalog_held has acts)
-  answers (inr (inl has)) acts = inl (index_held has acts)
-  answers (inr (inr (hive, has))) acts = ⊎_elim (λ good. inl good) (λ good. inr (hive, good)) (hive_held hive has acts)
+  answers : May → IsHeld m path bytes before → Acts → IsDocument bytes answer
+  answers may (inl has) acts = inl (catalog_held may has acts)
+  answers may (inr (inl has)) acts = inl (index_held may has acts)
+  answers may (inr (inr (hive, has))) acts = ⊎_elim (λ good. inl good) (λ good. inr (hive, good)) (hive_held may hive has acts)
 
 -- such an answer has the status 0, 4 or 8
 good_status : (name : AreaName) (bytes : List ℕ) (answer : Answer) → IsGood name bytes answer
@@ -209,10 +217,10 @@ not_document bytes answer status is own no0 no4 no8 = ⊎_elim (λ good. not_goo
 pub get_accepts : {B : Type 0} (m : Members B) (path : List ℕ) → Accepts (get_meaning m path)
 get_accepts m path = record {
   refused = λ before after answer ready acts three.
-      not_document ready.0 answer 3 (answers m path ready.0 before after answer ready.1 acts) three (λ e. omega (arith, e)) (λ e. omega (arith, e))
+      not_document ready.1 answer 3 (answers m path ready.1 before after answer ready.0 ready.2 acts) three (λ e. omega (arith, e)) (λ e. omega (arith, e))
       (λ e. omega (arith, e));
   sound = λ before after answer ready acts six.
-      not_document ready.0 answer 6 (answers m path ready.0 before after answer ready.1 acts) six (λ e. omega (arith, e)) (λ e. omega (arith, e))
+      not_document ready.1 answer 6 (answers m path ready.1 before after answer ready.0 ready.2 acts) six (λ e. omega (arith, e)) (λ e. omega (arith, e))
       (λ e. omega (arith, e));
   fits = λ before ready touched. absurd touched;
 }

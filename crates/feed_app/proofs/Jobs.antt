@@ -145,17 +145,17 @@ module _ {B : Type 0} (m : Members B) (hive : HiveName) (before after : Sight B)
   round_explains Made (Reply line.Memory) rose other is = tt
   round_explains Made _ rose other is = absurd is
 
-  explains : (answer : Answer) (untouched : Type 0) (old : Seen) → CatalogCause answer → HiveCause answer
-      → Jobs m hive answer Told untouched old (m.seen (area_of after.stores (area.Hive hive))) → Explained answer
-  explains answer untouched old rose other (inl (closed, same)) =
-      closed_explains m (job_reach hive) before after answer (job_touches hive).0 rose closed
-  explains answer untouched old rose other (inr is) =
+  explains : (given : Option (List ℕ)) (now : Seen) (answer : Answer) (untouched : Type 0) (old : Seen) → CatalogCause answer → HiveCause answer
+      → Jobs m given hive answer Told now untouched old (m.seen (area_of after.stores (area.Hive hive))) → Explained answer
+  explains given now answer untouched old rose other (inl (closed, same)) =
+      closed_explains m (job_reach hive) before after given now answer (job_touches hive).0 rose closed
+  explains given now answer untouched old rose other (inr (may, is)) =
       round_explains (MadeOver m hive Told old (m.seen (area_of after.stores (area.Hive hive)))) answer rose other is
 
   -- the job of a hive was done
   pub job_done : (answer : Answer) → KeepsAreas m (job_reach hive) before.stores after.stores → CatalogCause answer → HiveCause answer
       → (job_meaning m hive).acts before answer after → IsDone m (job_meaning m hive) before answer after
-  job_done answer keeps rose other is = record { keeps = keeps; explains = explains answer _ _ rose other is; acts = is }
+  job_done answer keeps rose other is = record { keeps = keeps; explains = explains before.given (m.seen after.stores.catalog) answer _ _ rose other is; acts = is }
 
 pub job_accepts : {B : Type 0} (m : Members B) (hive : HiveName) → Accepts (job_meaning m hive)
 job_accepts m hive = record {

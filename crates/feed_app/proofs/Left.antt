@@ -18,7 +18,7 @@ use Rattle.feed_app.specs.Publishes.{Ends, HasCommit, HasCommitOrNot, IsCommitOr
 use Rattle.feed_app.specs.Spelled.{HasCatalog}
 use Rattle.feed_app.specs.declared.answer.Answer.{Answer}
 use Rattle.feed_app.specs.declared.answer.Answer.TheVariants.{Reply}
-use Rattle.feed_app.proofs.Closed.{of_store_not}
+use Rattle.feed_app.proofs.Closed.{closed_not}
 use Rattle.feed_app.proofs.Endings.{reply_done, with_or_without}
 
 not_taken_zero : (answer : Answer) (rest : Option (List ℕ)) → NotTaken answer rest → answer_status answer ≡ 0 → ⊥
@@ -45,12 +45,13 @@ module _ {B : Type 0} (m : Members B) (before after : Sight B) (answer : Answer)
   LeftAfter = HasCommitOrNot (m.seen before.stores.catalog) (m.seen after.stores.catalog)
 
   abbrev EndsWith : List Change → Type 0
-  EndsWith changes = Ends answer changes (m.seen before.stores.catalog) (m.seen after.stores.catalog) before.clock after.clock
+  EndsWith changes = Ends before.given answer changes (m.seen before.stores.catalog) (m.seen after.stores.catalog) before.clock after.clock
 
   found_end : (changes : List Change) → EndsWith changes → answer_status answer ≡ 0 → FoundAfter
   found_end changes (inl (closed, spelled, unasked)) zero =
-      λ base cs has. absurd (of_store_not answer 0 (closed.of_store base cs has) zero (λ e. omega (arith, e)) (λ e. omega (arith, e)))
-  found_end changes (inr (now, r, tells, is, commits)) zero = λ base cs has.
+      λ base cs has. absurd (closed_not before.given answer (m.seen before.stores.catalog) (m.seen after.stores.catalog) closed base cs has 0 zero
+      (λ e. omega (arith, e)) (λ e. omega (arith, e)) (λ e. omega (arith, e)))
+  found_end changes (inr (allowed, now, r, tells, is, commits)) zero = λ base cs has.
       let done = reply_done r (sym (ap answer_status is) ∙ zero) in
       let all = subst (λ (x : Result Committed CommitErr). Commits cs changes now x (HasCatalog (m.seen after.stores.catalog) base)) done.1
       (commits.commits base cs has) in
@@ -74,7 +75,7 @@ module _ {B : Type 0} (m : Members B) (before after : Sight B) (answer : Answer)
         weaker (m.seen before.stores.catalog) (m.seen after.stores.catalog) (λ area. SpellsCatalog area base cs)
             (λ area. WithOrWithout cs changes 0 (SpellsCatalog area base)) at.1 (λ area here. inl here),
       )
-  left_end changes (inr (now, r, tells, is, commits)) = λ base cs has. (
+  left_end changes (inr (allowed, now, r, tells, is, commits)) = λ base cs has. (
     changes,
     now,
     with_or_without cs changes now r (HasCatalog (m.seen after.stores.catalog) base) (commits.commits base cs has),

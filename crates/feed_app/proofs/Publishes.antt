@@ -14,6 +14,7 @@ use Rattle.admin_wire.specs.declared.line.Refusal.TheVariants as refusal
 use Rattle.feed_app.specs.Accepts.{Accepts}
 use Rattle.feed_app.specs.Answers.{answer_status}
 use Rattle.feed_app.specs.Frame.{Explains, most_input}
+use Rattle.feed_app.specs.Openings.{MayOpen}
 use Rattle.feed_app.specs.Outside.{Members, Rose, Sight, held}
 use Rattle.feed_app.specs.Publishes.{Brings, IsRefusedBody, IsTakeable, NotTaken, Publishes, publish_meaning}
 use Rattle.feed_app.specs.Spelled.{HasCatalog, HoldsCatalog}
@@ -36,7 +37,7 @@ module _ {B : Type 0} (m : Members B) (before after : Sight B) where
 
   -- the area can take what the input has
   module _ (bytes : List ℕ) (area : Area) (is_body : before.input.told ≡ Some bytes) (there : held m before.stores.catalog ≡ Some area)
-      (can : IsTakeable area bytes) where
+      (can : IsTakeable area bytes) (may : MayOpen before.given (m.seen before.stores.catalog)) where
     abbrev its : HoldsCatalog area
     its = can.2.0
 
@@ -67,7 +68,7 @@ module _ {B : Type 0} (m : Members B) (before after : Sight B) where
     refused : (answer : Answer) → Publishes m before answer after → answer_status answer ≡ 3 → ⊥
     refused answer (inl (not_taken, same, unasked)) three = input_taken answer not_taken three
     refused answer (inr (changes, brings, ends)) three =
-        end_taken m before after its.0 its.1 changes before.clock after.clock its_catalog (λ now. its_taken changes now brings) answer ends three
+        end_taken m before after its.0 its.1 changes before.clock after.clock its_catalog may (λ now. its_taken changes now brings) answer ends three
 
     undamaged : (answer : Answer) → Publishes m before answer after → answer_status answer ≡ 6 → ⊥
     undamaged answer (inl (not_taken, same, unasked)) six = input_sound answer not_taken six
@@ -75,7 +76,7 @@ module _ {B : Type 0} (m : Members B) (before after : Sight B) where
 
 pub publish_accepts : {B : Type 0} (m : Members B) → Accepts (publish_meaning m)
 publish_accepts m = record {
-  refused = λ before after answer ready acts. refused m before after ready.0 ready.2.0 ready.1 ready.2.1 ready.2.2 answer acts;
-  sound = λ before after answer ready acts. undamaged m before after ready.0 ready.2.0 ready.1 ready.2.1 ready.2.2 answer acts;
-  fits = λ before ready touched. (ready.0, ready.1, ready.2.2.0);
+  refused = λ before after answer ready acts. refused m before after ready.1.0 ready.1.2.0 ready.1.1 ready.1.2.1 ready.1.2.2 ready.0 answer acts;
+  sound = λ before after answer ready acts. undamaged m before after ready.1.0 ready.1.2.0 ready.1.1 ready.1.2.1 ready.1.2.2 ready.0 answer acts;
+  fits = λ before ready touched. (ready.1.0, ready.1.1, ready.1.2.2.0);
 }

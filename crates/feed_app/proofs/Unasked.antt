@@ -7,7 +7,7 @@ use Rattle.catalog_doc.specs.Spelled.{SpellsCatalog}
 use Rattle.admin_wire.specs.declared.line.Line.TheVariants as line
 use Rattle.feed_app.specs.Commands.{Command, Init, Get, Publish, Names, Job, Cursor}
 use Rattle.feed_app.specs.Does.{Does, meaning}
-use Rattle.feed_app.specs.Frame.{KeepsArea, KeepsAreas, Touch, Nothing, Asks, Opens, Changes, Reach}
+use Rattle.feed_app.specs.Frame.{KeepsArea, KeepsAreas, KeepsValue, Touch, Nothing, Asks, Opens, Changes, Reach}
 use Rattle.feed_app.specs.Inits.{IsLeft}
 use Rattle.feed_app.specs.Openings.{NotOpened}
 use Rattle.feed_app.specs.Outside.{Members, Sight}
@@ -24,8 +24,15 @@ same_left : (base : List ℕ) (old : Option Area) → IsLeft base old old
 same_left base None = tt
 same_left base (Some m) = inl refl
 
-closed : (s : Seen) → NotOpened (Reply line.Memory) s
-closed s = record { told = tt; of_store = λ base cs has. tt }
+-- a value that isn't touched is kept, whatever may become of it
+pub same_value : {A : Type 0} (touch : Touch) (x : A) → KeepsValue touch x x
+same_value Nothing x = refl
+same_value Asks x = tt
+same_value Opens x = tt
+same_value Changes x = tt
+
+closed : (given : Option (List ℕ)) (s : Seen) → NotOpened given (Reply line.Memory) s s
+closed given s = record { told = tt; why = λ base cs has. inl tt }
 
 module _ {B : Type 0} (m : Members B) (sure : (store : B) → IsSure (m.seen store)) where
   same_area : (touch : Touch) (store : B) → KeepsArea m touch store store
@@ -48,9 +55,9 @@ module _ {B : Type 0} (m : Members B) (sure : (store : B) → IsSure (m.seen sto
     acts (Init base) = same_left base _
     acts Publish = inl (tt, refl, refl)
     acts (Names kind pairs) = inl (tt, refl, refl)
-    acts (Job hive) = inl (closed (m.seen before.stores.catalog), refl)
-    acts (Cursor hive) = inl (closed (m.seen before.stores.catalog), refl)
-    acts (Get path) = inl (closed (m.seen before.stores.catalog), λ hive. refl)
+    acts (Job hive) = inl (closed before.given (m.seen before.stores.catalog), refl)
+    acts (Cursor hive) = inl (closed before.given (m.seen before.stores.catalog), refl)
+    acts (Get path) = inl (closed before.given (m.seen before.stores.catalog), λ hive. refl)
 
     pub no_memory : (asked : Option Command) → Does m asked before (Reply line.Memory) before
     no_memory None = (inr refl, refl)

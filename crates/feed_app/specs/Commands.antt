@@ -1,11 +1,13 @@
 -- What a list of words means.
-use Rattle.std.specs.Prelude.{ℕ, List, [], ◌∷◌, codes, length, map, Option, Some, None, option_map, String, string_bytes, if◌then◌else◌, ◌==◌, ◌%◌, ⊤}
+use Rattle.std.specs.Prelude.{ℕ, List, [], ◌∷◌, Bool, true, false, codes, length, map, Option, Some, None, option_map, String, string_bytes, if◌then◌else◌, ◌==◌, ◌%◌, ⊤}
+use Rattle.std.specs.Option.{option_and_then}
 use Rattle.std.specs.Str.{bytes_eq}
 use Rattle.std.specs.declared.alloc.Global.{Global}
 use Rattle.admin_wire.specs.declared.names.NameKind.{NameKind}
 use Rattle.admin_wire.specs.declared.names.NameKind.TheVariants.{Unlist, Relist, Delete}
 use Rattle.fold_core.specs.declared.hive.HiveName.{HiveName}
 use Rattle.feed_routes.specs.Bases.{is_base_address}
+use Rattle.feed_words.specs.Words.{Given, given_in}
 use Rattle.feed_app.specs.Hives.{hive_by_word}
 use Rattle.feed_app.specs.declared.words.Command as code
 use Rattle.feed_app.specs.declared.words.Command.TheVariants as code_of
@@ -75,9 +77,33 @@ name_kind word =
 abbrev pub of_more_words : List ℕ → List (List ℕ) → Option Command
 of_more_words word words = if length words % 2 == 0 then option_map (λ kind. Names kind (pairs_of words)) (name_kind word) else None
 
+-- the command of plain words, where they have a meaning
+abbrev pub of_plain : List (List ℕ) → Option Command
+of_plain [] = None
+of_plain (word ∷ []) = of_one_word word
+of_plain (word ∷ object ∷ []) = of_two_words word object
+of_plain (word ∷ object ∷ more ∷ words) = of_more_words word (object ∷ more ∷ words)
+
+abbrev pub is_init : Command → Bool
+is_init (Init base) = true
+is_init _ = false
+
+-- what is given to a command is a base address, and every command but `init` may be given one
+abbrev pub may_give : Option (List ℕ) → Bool → Bool
+may_give None init = true
+may_give (Some base) init = if init then false else is_base_address base
+
+abbrev pub with_base : Option (List ℕ) → Command → Option Command
+with_base base command = if may_give base (is_init command) then Some command else None
+
+-- the command of what words give
+abbrev pub of_given : Given → Option Command
+of_given given = option_and_then (with_base given.base) (of_plain given.plain)
+
 -- the command of these words, where they have a meaning
 abbrev pub command_of : List (List ℕ) → Option Command
-command_of [] = None
-command_of (word ∷ []) = of_one_word word
-command_of (word ∷ object ∷ []) = of_two_words word object
-command_of (word ∷ object ∷ more ∷ words) = of_more_words word (object ∷ more ∷ words)
+command_of words = option_and_then of_given (given_in words)
+
+-- the base address that their option gives
+abbrev pub base_of : List (List ℕ) → Option (List ℕ)
+base_of words = option_and_then (λ given. given.base) (given_in words)

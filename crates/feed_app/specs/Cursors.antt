@@ -1,5 +1,5 @@
 -- The command `cursor`.
-use Rattle.std.specs.Prelude.{◌≡◌, ◌⊎◌, ℕ, Option, IfSome, ⊤}
+use Rattle.std.specs.Prelude.{◌≡◌, ◌⊎◌, ℕ, List, Option, IfSome, ⊤}
 use Rattle.std.specs.FinMap.{get}
 use Rattle.blob_store.specs.Area.{Area}
 use Rattle.blob_store.specs.Seen.{Seen}
@@ -10,7 +10,7 @@ use Rattle.job_round.specs.Cursors.{IsCursor, IsNoCursor}
 use Rattle.admin_wire.specs.declared.area.AreaName.TheVariants as area
 use Rattle.admin_wire.specs.declared.line.Line.TheVariants as line
 use Rattle.feed_app.specs.Frame.{Meaning, Reach, Asks, Opens, nothing}
-use Rattle.feed_app.specs.Openings.{NotOpened}
+use Rattle.feed_app.specs.Openings.{MayOpen, NotOpened}
 use Rattle.feed_app.specs.Outside.{Members, Shows, area_of, held}
 use Rattle.feed_app.specs.Spelled.{HoldsCatalog}
 use Rattle.feed_app.specs.declared.answer.Answer.{Answer}
@@ -26,8 +26,9 @@ TellsCursor hive (Reply line.Memory) held = ⊤
 TellsCursor hive _ held = ⊥
 
 -- what a `cursor` answers: of an area that opens no catalog, or of one that is open
-abbrev pub Cursors : HiveName → Answer → Seen → Type 0 → Option Area → Type 0
-Cursors hive answer catalog untouched held = (NotOpened answer catalog × untouched) ⊎ TellsCursor hive answer held
+abbrev pub Cursors : Option (List ℕ) → HiveName → Answer → (catalog later : Seen) → Type 0 → Option Area → Type 0
+Cursors given hive answer catalog later untouched held =
+    (NotOpened given answer catalog later × untouched) ⊎ (MayOpen given catalog × TellsCursor hive answer held)
 
 -- it opens the catalog and asks the hive's area
 abbrev pub cursor_reach : HiveName → Reach
@@ -40,9 +41,9 @@ cursor_reach Auto = record nothing { catalog = Opens; auto = Asks }
 abbrev pub cursor_meaning : {B : Type 0} → Members B → HiveName → Meaning B
 cursor_meaning m hive = record {
   reach = cursor_reach hive;
-  ready = λ before. Shows (held m before.stores.catalog) HoldsCatalog
+  ready = λ before. MayOpen before.given (m.seen before.stores.catalog) × Shows (held m before.stores.catalog) HoldsCatalog
       × Shows (held m (area_of before.stores (area.Hive hive))) (λ blobs. (n : ℕ) × IsCursor (get blobs cursor_name) n);
   acts = λ before answer after.
       let old = area_of before.stores (area.Hive hive) in
-      Cursors hive answer (m.seen before.stores.catalog) (area_of after.stores (area.Hive hive) ≡ old) (held m old);
+      Cursors before.given hive answer (m.seen before.stores.catalog) (m.seen after.stores.catalog) (area_of after.stores (area.Hive hive) ≡ old) (held m old);
 }

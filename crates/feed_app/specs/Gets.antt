@@ -20,7 +20,7 @@ use Rattle.admin_wire.specs.declared.line.Line.TheVariants as line
 use Rattle.admin_wire.specs.declared.line.Refusal.TheVariants as refusal
 use Rattle.feed_app.specs.Frame.{Meaning, Reach, Touch, Asks, Nothing, Opens, nothing}
 use Rattle.feed_app.specs.Hives.{KeepsAll, KeepsOthers, hive_area, hive_stores}
-use Rattle.feed_app.specs.Openings.{NotOpened}
+use Rattle.feed_app.specs.Openings.{MayOpen, NotOpened}
 use Rattle.feed_app.specs.Outside.{Members, Sight, Stream, Shows, held}
 use Rattle.feed_app.specs.Spelled.{ForEach, HasCatalog, HoldsCatalog, Of}
 use Rattle.feed_app.specs.Targets.{IsCatalogPath, IsHivePath, IsIndexPath, IsServerPath}
@@ -74,9 +74,9 @@ AnswersPath m answer path Is old new =
     ⊎ (answer ≡ Reply line.Memory))))))
 
 -- what a `get` answers: of an area that opens no catalog, or of one that is open
-abbrev pub Gets : {B : Type 0} → Members B → Answer → List ℕ → Seen → (ServedHive → B) → (ServedHive → B) → Type 0
-Gets m answer path catalog old new =
-    (NotOpened answer catalog × KeepsAll old new) ⊎ AnswersPath m answer path (HasCatalog catalog) old new
+abbrev pub Gets : {B : Type 0} → Members B → Option (List ℕ) → Answer → List ℕ → (catalog later : Seen) → (ServedHive → B) → (ServedHive → B) → Type 0
+Gets m given answer path catalog later old new =
+    (NotOpened given answer catalog later × KeepsAll old new) ⊎ (MayOpen given catalog × AnswersPath m answer path (HasCatalog catalog) old new)
 
 -- the area spells a catalog that has this document
 abbrev pub HoldsDocument : Area → List ℕ → List ℕ → Type 0
@@ -121,6 +121,7 @@ get_reach path = record nothing { catalog = Opens; plain = asked_under path Plai
 abbrev pub get_meaning : {B : Type 0} → Members B → List ℕ → Meaning B
 get_meaning m path = record {
   reach = get_reach (target_path path);
-  ready = λ before. (bytes : List ℕ) × IsHeld m path bytes before;
-  acts = λ before answer after. Gets m answer path (m.seen before.stores.catalog) (hive_stores before.stores) (hive_stores after.stores);
+  ready = λ before. MayOpen before.given (m.seen before.stores.catalog) × (bytes : List ℕ) × IsHeld m path bytes before;
+  acts = λ before answer after.
+      Gets m before.given answer path (m.seen before.stores.catalog) (m.seen after.stores.catalog) (hive_stores before.stores) (hive_stores after.stores);
 }

@@ -1,5 +1,5 @@
 -- The command `job`.
-use Rattle.std.specs.Prelude.{◌≡◌, ◌⊎◌, ◌<◌, ℕ, List, length, IfOk, IfSome, Result}
+use Rattle.std.specs.Prelude.{◌≡◌, ◌⊎◌, ◌<◌, ℕ, List, length, IfOk, IfSome, Option, Result}
 use Rattle.std.specs.declared.result.Result.TheVariants.{Ok, Err}
 use Rattle.std.specs.FinMap.{get}
 use Rattle.blob_store.specs.Seen.{Seen}
@@ -21,7 +21,7 @@ use Rattle.admin_wire.specs.declared.line.Line.TheVariants as line
 use Rattle.feed_app.specs.Damages.{IsLostOfHive, IsUnread}
 use Rattle.feed_app.specs.Frame.{Meaning, Reach, Changes, Opens, nothing}
 use Rattle.feed_app.specs.Hives.{hive_fold}
-use Rattle.feed_app.specs.Openings.{NotOpened}
+use Rattle.feed_app.specs.Openings.{MayOpen, NotOpened}
 use Rattle.feed_app.specs.Outside.{Members, area_of}
 use Rattle.feed_app.specs.Spelled.{IsOpenOver, IsSpelled}
 use Rattle.feed_app.specs.declared.answer.Answer.{Answer}
@@ -54,9 +54,10 @@ MadeOver {B} m hive catalog old new result = (o : Opened B) × IsOpenOver catalo
     × RoundMade (hive_fold hive o.base) (IsOpenFor o (m.seen o.area)) old new result
 
 -- what a job answers: of an area that opens no catalog, or of one that is open
-abbrev pub Jobs : {B : Type 0} → Members B → HiveName → Answer → Seen → Type 0 → (old new : Seen) → Type 0
-Jobs m hive answer catalog untouched old new = (NotOpened answer catalog × untouched)
-    ⊎ RoundTold (MadeOver m hive catalog old new) (IsUnread catalog.held) (IsLostOfHive (IsSpelled catalog) new.held) hive answer
+abbrev pub Jobs : {B : Type 0} → Members B → Option (List ℕ) → HiveName → Answer → (catalog later : Seen) → Type 0 → (old new : Seen) → Type 0
+Jobs m given hive answer catalog later untouched old new = (NotOpened given answer catalog later × untouched)
+    ⊎ (MayOpen given catalog
+    × RoundTold (MadeOver m hive catalog old new) (IsUnread catalog.held) (IsLostOfHive (IsSpelled catalog) new.held) hive answer)
 
 -- it opens the catalog and changes the hive's area
 abbrev pub job_reach : HiveName → Reach
@@ -73,5 +74,5 @@ job_meaning m hive = record {
   acts = λ before answer after.
       let old = area_of before.stores (area.Hive hive) in
       let new = area_of after.stores (area.Hive hive) in
-      Jobs m hive answer (m.seen before.stores.catalog) (new ≡ old) (m.seen old) (m.seen new);
+      Jobs m before.given hive answer (m.seen before.stores.catalog) (m.seen after.stores.catalog) (new ≡ old) (m.seen old) (m.seen new);
 }

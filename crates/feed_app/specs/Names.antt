@@ -14,6 +14,7 @@ use Rattle.catalog_doc.specs.declared.change.Change.{Change}
 use Rattle.catalog_core.specs.Committing.{MayBeCommitted}
 use Rattle.feed_app.specs.Commands.{Pair}
 use Rattle.feed_app.specs.Frame.{Meaning, Changes, nothing}
+use Rattle.feed_app.specs.Openings.{MayOpen}
 use Rattle.feed_app.specs.Outside.{Members, Sight, Shows, held}
 use Rattle.feed_app.specs.Publishes.{Ends}
 use Rattle.feed_app.specs.Spelled.{HoldsCatalog}
@@ -54,7 +55,7 @@ abbrev pub CommitsNames : {B : Type 0} → Members B → NameKind → List Pair 
 CommitsNames m kind pairs before answer after =
     (NotRead answer kind pairs × (after.stores.catalog ≡ before.stores.catalog) × (after.clock ≡ before.clock))
     ⊎ ((changes : List Change) × AreAsked kind pairs changes
-    × Ends answer changes (m.seen before.stores.catalog) (m.seen after.stores.catalog) before.clock after.clock)
+    × Ends before.given answer changes (m.seen before.stores.catalog) (m.seen after.stores.catalog) before.clock after.clock)
 
 -- the area spells a catalog, the pairs ask for changes, and these may follow each such catalog at every moment
 abbrev pub CanTakeNames : Area → NameKind → List Pair → Type 0
@@ -66,6 +67,6 @@ CanTakeNames area kind pairs = HoldsCatalog area × ((changes : List Change) × 
 abbrev pub names_meaning : {B : Type 0} → Members B → NameKind → List Pair → Meaning B
 names_meaning m kind pairs = record {
   reach = record nothing { catalog = Changes; clock = Changes };
-  ready = λ before. Shows (held m before.stores.catalog) (λ area. CanTakeNames area kind pairs);
+  ready = λ before. MayOpen before.given (m.seen before.stores.catalog) × Shows (held m before.stores.catalog) (λ area. CanTakeNames area kind pairs);
   acts = CommitsNames m kind pairs;
 }

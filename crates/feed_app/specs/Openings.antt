@@ -1,10 +1,10 @@
 -- What is answered where a command opens no catalog.
-use Rattle.std.specs.Prelude.{◌≡◌, None, Some, ⊤}
+use Rattle.std.specs.Prelude.{◌≡◌, ◌≢◌, ◌⊎◌, ℕ, List, Option, None, Some, ⊤}
 use Rattle.std.specs.FinMap.{get}
 use Rattle.blob_store.specs.Area.{Area}
 use Rattle.blob_store.specs.Seen.{Seen}
 use Rattle.catalog_doc.specs.Names.{index_name}
-use Rattle.catalog_opening.specs.Openings.{IsDamagedOf}
+use Rattle.catalog_opening.specs.Openings.{IsAllowedBase, IsDamagedOf}
 use Rattle.admin_wire.specs.declared.area.AreaName.TheVariants as area
 use Rattle.admin_wire.specs.declared.line.Line.TheVariants as line
 use Rattle.admin_wire.specs.declared.line.Refusal.TheVariants as refusal
@@ -27,7 +27,16 @@ IsOfStore (Reply (line.Fault area.Catalog)) = ⊤
 IsOfStore (Reply line.Memory) = ⊤
 IsOfStore _ = ⊥
 
--- a catalog that the area spells is opened, unless the store fails or memory runs out
-pub record NotOpened (answer : Answer) (s : Seen) : Type 0 where
-  pub told : OpensNone answer s
-  pub of_store : ForSpelled s (λ base cs. IsOfStore answer)
+-- another base address than this one is given, and the answer tells both
+abbrev pub TellsBases : Option (List ℕ) → List ℕ → Answer → Type 0
+TellsBases given base answer = (other : List ℕ) × (given ≡ Some other) × (other ≢ base) × (answer ≡ Reply (line.Refused (refusal.Base base other)))
+
+-- the base address that is given, if any, is that of each catalog that the area spells
+abbrev pub MayOpen : Option (List ℕ) → Seen → Type 0
+MayOpen given s = ForSpelled s (λ base cs. IsAllowedBase given base)
+
+-- A catalog that the area spells is opened, unless the store fails, or memory runs out, or another base address than its own
+-- is given; then the area is as it was.
+pub record NotOpened (given : Option (List ℕ)) (answer : Answer) (old new : Seen) : Type 0 where
+  pub told : OpensNone answer old
+  pub why : ForSpelled old (λ base cs. IsOfStore answer ⊎ (TellsBases given base answer × (new.held ≡ old.held)))

@@ -42,14 +42,15 @@ pub record Stream : Type 0 where
 abbrev pub Rose : Stream → Stream → Type 0
 Rose old new = HasRisen old.faults new.faults
 
--- what a command sees: the stores, what the input has left, and what the clock has answered
+-- what a command sees: the base address that is given, the stores, what the input has left, and what the clock has answered
 pub record Sight (B : Type 0) : Type 0 where
+  pub given : Option (List ℕ)
   pub stores : Stores B
   pub input : Stream
   pub clock : Option (List ℕ)
 
-abbrev pub over : {B : Type 0} → Stores B → Stream → Option (List ℕ) → Sight B
-over stores input clock = record { stores = stores; input = input; clock = clock }
+abbrev pub over : {B : Type 0} → Option (List ℕ) → Stores B → Stream → Option (List ℕ) → Sight B
+over given stores input clock = record { given = given; stores = stores; input = input; clock = clock }
 
 -- all that a call of the program is given, but for its words
 pub record Outside (B I O C : Type 0) : Type 0 where
@@ -77,9 +78,9 @@ input_of source input = record { told = source.left input; faults = source.fault
 abbrev pub output_of : {O : Type 0} → bound.Sink.Ghosts O → O → Stream
 output_of sink output = record { told = sink.written output; faults = sink.faults output }
 
--- what a command sees of it
-abbrev pub sight : {B I O C : Type 0} → Bounds B I O C → Outside B I O C → Sight B
-sight b seen = over seen.stores (input_of b.source seen.input) (b.clocks.answers seen.clock)
+-- what a command sees of it, to which this base address is given
+abbrev pub sight : {B I O C : Type 0} → Bounds B I O C → Option (List ℕ) → Outside B I O C → Sight B
+sight b given seen = over given seen.stores (input_of b.source seen.input) (b.clocks.answers seen.clock)
 
 -- what is told holds so, where it is told
 abbrev pub Shows : {A : Type 0} → Option A → (A → Type 0) → Type 0

@@ -20,7 +20,7 @@ use Rattle.catalog_doc.specs.declared.error.CommitErr.{CommitErr}
 use Rattle.catalog_core.specs.Committing.{Commits, MayBeCommitted, WithOrWithout, with_made}
 use Rattle.feed_app.specs.Causes.{commit_answer}
 use Rattle.feed_app.specs.Frame.{Meaning, Changes, most_input, nothing}
-use Rattle.feed_app.specs.Openings.{NotOpened}
+use Rattle.feed_app.specs.Openings.{MayOpen, NotOpened}
 use Rattle.feed_app.specs.Outside.{Members, Sight, Shows, held}
 use Rattle.feed_app.specs.Spelled.{ForSpelled, HasCatalog, HoldsCatalog, StaysSpelled}
 use Rattle.feed_app.specs.declared.answer.Answer.{Answer}
@@ -70,10 +70,11 @@ HasCommitOrNot old new = ForSpelled old (IsCommitOrNot old new)
 
 -- The clock wasn't asked, and what the area spelled it spells: no catalog was opened. Or the clock was asked once, and the
 -- changes were committed at that moment onto the catalog that was there.
-abbrev pub Ends : Answer → List Change → Seen → Seen → Option (List ℕ) → Option (List ℕ) → Type 0
-Ends answer changes old new told later =
-    (NotOpened answer old × StaysSpelled old new × (later ≡ told))
-    ⊎ ((now : ℕ) × (result : Result Committed CommitErr) × Tells now told later × (answer ≡ commit_reply result) × CommitsAt changes now old new result)
+abbrev pub Ends : Option (List ℕ) → Answer → List Change → Seen → Seen → Option (List ℕ) → Option (List ℕ) → Type 0
+Ends given answer changes old new told later =
+    (NotOpened given answer old new × StaysSpelled old new × (later ≡ told))
+    ⊎ (MayOpen given old × (now : ℕ) × (result : Result Committed CommitErr) × Tells now told later × (answer ≡ commit_reply result)
+    × CommitsAt changes now old new result)
 
 -- What `publish` answers, and what it leaves: the input was not taken, and neither the catalog's area nor the clock was
 -- asked; or it is a body of publishes, and what became of them.
@@ -81,7 +82,7 @@ abbrev pub Publishes : {B : Type 0} → Members B → Sight B → Answer → Sig
 Publishes m before answer after =
     (NotTaken answer before.input.told × (after.stores.catalog ≡ before.stores.catalog) × (after.clock ≡ before.clock))
     ⊎ ((changes : List Change) × Brings before.input.told changes
-    × Ends answer changes (m.seen before.stores.catalog) (m.seen after.stores.catalog) before.clock after.clock)
+    × Ends before.given answer changes (m.seen before.stores.catalog) (m.seen after.stores.catalog) before.clock after.clock)
 
 -- the area spells a catalog, and the publishes that the body asks for may follow each such catalog at every moment
 abbrev pub CanTake : Area → List ℕ → Type 0
@@ -96,6 +97,7 @@ IsTakeable area body = (length body ≤ most_input) × ((changes : List Change) 
 abbrev pub publish_meaning : {B : Type 0} → Members B → Meaning B
 publish_meaning m = record {
   reach = record nothing { catalog = Changes; input = Changes; clock = Changes };
-  ready = λ before. Shows before.input.told (λ body. Shows (held m before.stores.catalog) (λ area. IsTakeable area body));
+  ready = λ before. MayOpen before.given (m.seen before.stores.catalog)
+      × Shows before.input.told (λ body. Shows (held m before.stores.catalog) (λ area. IsTakeable area body));
   acts = Publishes m;
 }

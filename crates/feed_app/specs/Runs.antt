@@ -1,7 +1,7 @@
 -- A whole call: the command of the words is done, and then its answer is written.
 use Rattle.std.specs.Prelude.{◌≡◌, ◌⊎◌, ℕ, List, Some}
 use Rattle.admin_wire.specs.declared.area.AreaName.{AreaName}
-use Rattle.feed_app.specs.Commands.{Command, command_of}
+use Rattle.feed_app.specs.Commands.{Command, base_of, command_of}
 use Rattle.feed_app.specs.Does.{Does, meaning, reach_of}
 use Rattle.feed_app.specs.Frame.{Reach, Touches, KeepsValue, touch_of}
 use Rattle.feed_app.specs.Outside.{Members, Outside, Bounds, Rose, AreaRose, area_of, input_of, output_of, sight}
@@ -11,7 +11,7 @@ use Rattle.feed_app.specs.declared.answer.Answer.{Answer}
 pub record RunsCommand {B I O C : Type 0} (b : Bounds B I O C) (words : List (List ℕ)) (before : Outside B I O C) (status : ℕ)
     (after : Outside B I O C) : Type 0 where
   pub answer : Answer
-  pub does : Does b.blobs (command_of words) (sight b before) answer (sight b after)
+  pub does : Does b.blobs (command_of words) (sight b (base_of words) before) answer (sight b (base_of words) after)
   pub unread : KeepsValue (reach_of b.blobs (command_of words)).input before.input after.input
   pub unasked : KeepsValue (reach_of b.blobs (command_of words)).clock before.clock after.clock
   pub writes : WritesAnswer answer status (output_of b.sink before.output) (output_of b.sink after.output)
@@ -33,7 +33,7 @@ IsTouchedBy m words name = (command : Command) × (command_of words ≡ Some com
 
 -- the words ask for a command that can be done
 abbrev pub CanBeDone : {B I O C : Type 0} → Bounds B I O C → List (List ℕ) → Outside B I O C → Type 0
-CanBeDone b words before = (command : Command) × (command_of words ≡ Some command) × (meaning b.blobs command).ready (sight b before)
+CanBeDone b words before = (command : Command) × (command_of words ≡ Some command) × (meaning b.blobs command).ready (sight b (base_of words) before)
 
 -- what that command may touch stayed quiet
 abbrev pub IsQuiet : {B I O C : Type 0} → Bounds B I O C → List (List ℕ) → Outside B I O C → Outside B I O C → Type 0

@@ -1,5 +1,5 @@
 // The command `cursor`.
-ghost use Rattle.std.specs.Prelude.{◌≡◌, ℕ, List, Option};
+ghost use Rattle.std.specs.Prelude.{◌≡◌, ℕ, List, Option, option_map};
 ghost use Rattle.feed_base.specs.Counts.{HasRisen};
 ghost use Rattle.fold_core.specs.declared.hive.HiveName.{HiveName};
 ghost use Rattle.feed_app.specs.Cursors.{TellsCursor, cursor_meaning};
@@ -50,17 +50,19 @@ fn cursor_among<B: Blobs>(
     }
 }
 
-/// Opens the catalog, and tells the number of the hive's cursor.
+/// Opens the catalog, for a base address that is given, if any, and tells the number of the hive's cursor.
 pub(crate) fn cursor<B: Blobs>(
     alloc: Global,
     stores: Stores<B>,
+    base: Option<&str>,
     hive: HiveName,
 ) -> (Answer, Stores<B>)
     ensures { (input : Stream) (clock : Option (List ℕ))
-        → IsDone B.Blobs (cursor_meaning B.Blobs hive) (over stores input clock) result.0 (over result.1 input clock) }
+        → IsDone B.Blobs (cursor_meaning B.Blobs hive) (over (option_map (λ t. t.now) base.entry) stores input clock) result.0
+        (over (option_map (λ t. t.now) base.entry) result.1 input clock) }
 {
     let mut stores = stores;
-    match open_catalog(alloc, stores.catalog, None) {
+    match open_catalog(alloc, stores.catalog, base) {
         Ok(catalog) => {
             let answer = cursor_among(
                 alloc,

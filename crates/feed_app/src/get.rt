@@ -1,5 +1,5 @@
 // The command `get`.
-ghost use Rattle.std.specs.Prelude.{◌≡◌, ◌⊎◌, ℕ, List, Option};
+ghost use Rattle.std.specs.Prelude.{◌≡◌, ◌⊎◌, ℕ, List, Option, option_map};
 ghost use Rattle.feed_base.specs.Counts.{HasRisen};
 ghost use Rattle.pkg_meta.specs.declared.commit.Stored.{Stored};
 ghost use Rattle.catalog_doc.specs.CatDocs.{doc_at};
@@ -115,13 +115,19 @@ fn document<B: Blobs>(
     }
 }
 
-/// Opens the catalog, and gives the document that the path names.
-pub(crate) fn get<B: Blobs>(alloc: Global, stores: Stores<B>, path: &str) -> (Answer, Stores<B>)
+/// Opens the catalog, for a base address that is given, if any, and gives the document that the path names.
+pub(crate) fn get<B: Blobs>(
+    alloc: Global,
+    stores: Stores<B>,
+    base: Option<&str>,
+    path: &str,
+) -> (Answer, Stores<B>)
     ensures { (input : Stream) (clock : Option (List ℕ))
-        → IsDone B.Blobs (get_meaning B.Blobs path.now) (over stores input clock) result.0 (over result.1 input clock) }
+        → IsDone B.Blobs (get_meaning B.Blobs path.now) (over (option_map (λ t. t.now) base.entry) stores input clock) result.0
+        (over (option_map (λ t. t.now) base.entry) result.1 input clock) }
 {
     let mut stores = stores;
-    match open_catalog(alloc, stores.catalog, None) {
+    match open_catalog(alloc, stores.catalog, base) {
         Ok(catalog) => {
             let mut catalog = catalog;
             let answer = document(

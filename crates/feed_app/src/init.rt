@@ -24,8 +24,8 @@ fn init_at<B: Blobs>(alloc: Global, area: B, base: &str) -> (Answer, B)
 
 /// Makes the catalog of no commits at this base address, where the catalog's area holds no index.
 pub(crate) fn init<B: Blobs>(alloc: Global, stores: Stores<B>, base: &str) -> (Answer, Stores<B>)
-    ensures { (input : Stream) (clock : Option (List ℕ))
-        → IsDone B.Blobs (init_meaning B.Blobs base.now) (over stores input clock) result.0 (over result.1 input clock) }
+    ensures { (given : Option (List ℕ)) (input : Stream) (clock : Option (List ℕ))
+        → IsDone B.Blobs (init_meaning B.Blobs base.now) (over given stores input clock) result.0 (over given result.1 input clock) }
 {
     let mut stores = stores;
     let (answer, catalog) = init_at(alloc, stores.catalog, base);

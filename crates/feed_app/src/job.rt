@@ -1,5 +1,5 @@
 // The command `job`.
-ghost use Rattle.std.specs.Prelude.{◌≡◌, ℕ, List, Option};
+ghost use Rattle.std.specs.Prelude.{◌≡◌, ℕ, List, Option, option_map};
 ghost use Rattle.feed_base.specs.Counts.{HasRisen};
 ghost use Rattle.catalog_core.specs.Framing.{StaysOpen};
 ghost use Rattle.catalog_core.specs.Opened.{IsOpenFor};
@@ -67,13 +67,19 @@ fn job_of<B: Blobs>(
     }
 }
 
-/// Opens the catalog, and makes one round of the hive over it.
-pub(crate) fn job<B: Blobs>(alloc: Global, stores: Stores<B>, hive: HiveName) -> (Answer, Stores<B>)
+/// Opens the catalog, for a base address that is given, if any, and makes one round of the hive over it.
+pub(crate) fn job<B: Blobs>(
+    alloc: Global,
+    stores: Stores<B>,
+    base: Option<&str>,
+    hive: HiveName,
+) -> (Answer, Stores<B>)
     ensures { (input : Stream) (clock : Option (List ℕ))
-        → IsDone B.Blobs (job_meaning B.Blobs hive) (over stores input clock) result.0 (over result.1 input clock) }
+        → IsDone B.Blobs (job_meaning B.Blobs hive) (over (option_map (λ t. t.now) base.entry) stores input clock) result.0
+        (over (option_map (λ t. t.now) base.entry) result.1 input clock) }
 {
     let mut stores = stores;
-    match open_catalog(alloc, stores.catalog, None) {
+    match open_catalog(alloc, stores.catalog, base) {
         Ok(catalog) => {
             let mut catalog = catalog;
             let answer = job_of(

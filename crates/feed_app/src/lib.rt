@@ -26,6 +26,7 @@ pub use answer::Answer;
 pub use catalog_core::Stores;
 pub use commit_laws::{commits_are_found, commits_stop_between};
 pub use feed_base::Status;
+pub use feed_words::{Words, read_words};
 pub use get_laws::serves_documents;
 pub use laws::{answers_usage, completes, explains_statuses, keeps_others};
 pub use run::run_command;

@@ -1,5 +1,5 @@
 // The commands `unlist`, `list` and `delete`.
-ghost use Rattle.std.specs.Prelude.{◌≡◌, ℕ, List, IfErr, IfOk};
+ghost use Rattle.std.specs.Prelude.{◌≡◌, ℕ, List, IfErr, IfOk, option_map};
 ghost use Rattle.admin_wire.specs.Bodies.{IsAsked};
 ghost use Rattle.feed_app.specs.Commands.{pairs_of, texts};
 ghost use Rattle.feed_app.specs.Frame.{IsDone};
@@ -54,19 +54,20 @@ fn read_pairs(alloc: Global, kind: NameKind, words: &[String]) -> Result<Changes
 pub(crate) fn commit_names<B: Blobs, C: Clock>(
     alloc: Global,
     stores: Stores<B>,
+    base: Option<&str>,
     kind: NameKind,
     words: &[String],
     clock: &mut C,
 ) -> (Answer, Stores<B>)
-    ensures { (input : Stream) → IsDone B.Blobs (names_meaning B.Blobs kind (pairs_of (texts words.now))) (over stores input (C.answers clock.old)) result.0
-        (over result.1 input (C.answers clock.new)) }
+    ensures { (input : Stream) → IsDone B.Blobs (names_meaning B.Blobs kind (pairs_of (texts words.now)))
+        (over (option_map (λ t. t.now) base.entry) stores input (C.answers clock.old)) result.0 (over (option_map (λ t. t.now) base.entry) result.1 input (C.answers clock.new)) }
 {
     let mut stores = stores;
     let changes = match read_pairs(alloc, kind, words) {
         Ok(changes) => changes,
         Err(answer) => return (answer, stores),
     };
-    let (answer, catalog) = commit_into(alloc, stores.catalog, &changes, clock);
+    let (answer, catalog) = commit_into(alloc, stores.catalog, base, &changes, clock);
     stores.catalog = catalog;
     (answer, stores)
 }

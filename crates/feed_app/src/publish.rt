@@ -1,5 +1,5 @@
 // The command `publish`.
-ghost use Rattle.std.specs.Prelude.{◌≡◌};
+ghost use Rattle.std.specs.Prelude.{◌≡◌, option_map};
 ghost use Rattle.feed_app.specs.Frame.{IsDone};
 ghost use Rattle.feed_app.specs.Outside.{input_of, over};
 ghost use Rattle.feed_app.specs.Publishes.{publish_meaning};
@@ -16,18 +16,19 @@ use std::alloc::Global;
 pub(crate) fn publish<B: Blobs, I: Source, C: Clock>(
     alloc: Global,
     stores: Stores<B>,
+    base: Option<&str>,
     input: &mut I,
     clock: &mut C,
 ) -> (Answer, Stores<B>)
-    ensures { IsDone B.Blobs (publish_meaning B.Blobs) (over stores (input_of I.Source input.old) (C.answers clock.old)) result.0
-        (over result.1 (input_of I.Source input.new) (C.answers clock.new)) }
+    ensures { IsDone B.Blobs (publish_meaning B.Blobs) (over (option_map (λ t. t.now) base.entry) stores (input_of I.Source input.old) (C.answers clock.old)) result.0
+        (over (option_map (λ t. t.now) base.entry) result.1 (input_of I.Source input.new) (C.answers clock.new)) }
 {
     let mut stores = stores;
     let changes = match take_publish(alloc, input) {
         Ok(changes) => changes,
         Err(answer) => return (answer, stores),
     };
-    let (answer, catalog) = commit_into(alloc, stores.catalog, &changes, clock);
+    let (answer, catalog) = commit_into(alloc, stores.catalog, base, &changes, clock);
     stores.catalog = catalog;
     (answer, stores)
 }

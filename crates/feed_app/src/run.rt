@@ -1,8 +1,9 @@
 // The top call.
-ghost use Rattle.std.specs.Prelude.{◌≡◌};
-ghost use Rattle.feed_app.specs.Commands.{command_of, texts};
-ghost use Rattle.feed_app.specs.Does.{Does, reach_of};
-ghost use Rattle.feed_app.specs.Frame.{KeepsValue};
+ghost use Rattle.std.specs.Prelude.{◌≡◌, option_map};
+ghost use Rattle.feed_words.specs.Words.{given};
+ghost use Rattle.feed_app.specs.Commands.{asked, base_of, command_of, of_given, texts};
+ghost use Rattle.feed_app.specs.Does.{Does, meaning, reach_of};
+ghost use Rattle.feed_app.specs.Frame.{IsDone, KeepsValue};
 ghost use Rattle.feed_app.specs.Outside.{bounds, input_of, output_of, outside, over};
 ghost use Rattle.feed_app.specs.Runs.{RunsCommand};
 ghost use Rattle.feed_app.specs.Writes.{WritesAnswer};
@@ -19,8 +20,53 @@ use admin_wire::Line;
 use blob_store::Blobs;
 use catalog_core::Stores;
 use feed_base::{Clock, Sink, Source, Status};
+use feed_words::{Words, read_words};
 use pkg_meta::NoMemory;
 use std::alloc::Global;
+
+// Does a command, for a base address that is given, if any.
+fn obey<B: Blobs, I: Source, C: Clock>(
+    alloc: Global,
+    command: Command<'_>,
+    base: Option<&str>,
+    stores: Stores<B>,
+    input: &mut I,
+    clock: &mut C,
+) -> (Answer, Stores<B>)
+    ensures done { IsDone B.Blobs (meaning B.Blobs (asked command.entry)) (over (option_map (λ t. t.now) base.entry) stores (input_of I.Source input.old) (C.answers clock.old))
+        result.0 (over (option_map (λ t. t.now) base.entry) result.1 (input_of I.Source input.new) (C.answers clock.new)) }
+    ensures unread { KeepsValue (meaning B.Blobs (asked command.entry)).reach.input input.old input.new }
+    ensures unasked { KeepsValue (meaning B.Blobs (asked command.entry)).reach.clock clock.old clock.new }
+{
+    match command {
+        Command::Init(own) => init(alloc, stores, own),
+        Command::Publish => publish(alloc, stores, base, input, clock),
+        Command::Names(kind, words) => commit_names(alloc, stores, base, kind, words, clock),
+        Command::Job(hive) => job(alloc, stores, base, hive),
+        Command::Cursor(hive) => cursor(alloc, stores, base, hive),
+        Command::Get(path) => get(alloc, stores, base, path),
+    }
+}
+
+// Does what words mean that were read.
+fn act_on<B: Blobs, I: Source, C: Clock>(
+    alloc: Global,
+    words: &Words,
+    stores: Stores<B>,
+    input: &mut I,
+    clock: &mut C,
+) -> (Answer, Stores<B>)
+    ensures does { Does B.Blobs (of_given (given words.now)) (over (given words.now).base stores (input_of I.Source input.old) (C.answers clock.old)) result.0
+        (over (given words.now).base result.1 (input_of I.Source input.new) (C.answers clock.new)) }
+    ensures unread { KeepsValue (reach_of B.Blobs (of_given (given words.now))).input input.old input.new }
+    ensures unasked { KeepsValue (reach_of B.Blobs (of_given (given words.now))).clock clock.old clock.new }
+{
+    match meaning_of(alloc, words) {
+        Err(NoMemory) => (Answer::Reply(Line::Memory), stores),
+        Ok(None) => (Answer::Usage, stores),
+        Ok(Some(command)) => obey(alloc, command, words.base(), stores, input, clock),
+    }
+}
 
 // Does what the words say, but for the writing.
 fn act<B: Blobs, I: Source, C: Clock>(
@@ -30,20 +76,15 @@ fn act<B: Blobs, I: Source, C: Clock>(
     input: &mut I,
     clock: &mut C,
 ) -> (Answer, Stores<B>)
-    ensures does { Does B.Blobs (command_of (texts words.now)) (over stores (input_of I.Source input.old) (C.answers clock.old)) result.0
-        (over result.1 (input_of I.Source input.new) (C.answers clock.new)) }
+    ensures does { Does B.Blobs (command_of (texts words.now)) (over (base_of (texts words.now)) stores (input_of I.Source input.old) (C.answers clock.old)) result.0
+        (over (base_of (texts words.now)) result.1 (input_of I.Source input.new) (C.answers clock.new)) }
     ensures unread { KeepsValue (reach_of B.Blobs (command_of (texts words.now))).input input.old input.new }
     ensures unasked { KeepsValue (reach_of B.Blobs (command_of (texts words.now))).clock clock.old clock.new }
 {
-    match meaning_of(alloc, words) {
+    match read_words(alloc, words) {
         Err(NoMemory) => (Answer::Reply(Line::Memory), stores),
         Ok(None) => (Answer::Usage, stores),
-        Ok(Some(Command::Init(base))) => init(alloc, stores, base),
-        Ok(Some(Command::Publish)) => publish(alloc, stores, input, clock),
-        Ok(Some(Command::Names(kind, words))) => commit_names(alloc, stores, kind, words, clock),
-        Ok(Some(Command::Job(hive))) => job(alloc, stores, hive),
-        Ok(Some(Command::Cursor(hive))) => cursor(alloc, stores, hive),
-        Ok(Some(Command::Get(path))) => get(alloc, stores, path),
+        Ok(Some(words)) => act_on(alloc, &words, stores, input, clock),
     }
 }
 

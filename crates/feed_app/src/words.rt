@@ -1,11 +1,13 @@
 // What the words of a command mean.
 ghost use Rattle.std.specs.Prelude.{◌≡◌, ◌≢◌, ◌≤◌, ◌∷◌, [], ℕ, List, length, map, option_map, string_bytes, IfOk, IfSome, IfNone};
+ghost use Rattle.feed_words.specs.Words.{given};
 ghost use Rattle.feed_app.specs.Hives.{hive_by_word};
-ghost use Rattle.feed_app.specs.Commands.{Job, Cursor, command_of, init_with, name_kind, of_one_word, of_two_words, of_more_words, asked, texts};
+ghost use Rattle.feed_app.specs.Commands.{Job, Cursor, init_with, is_init, may_give, name_kind, of_one_word, of_two_words, of_given, of_more_words, of_plain, asked, texts};
 
 use crate::hives::hive_by_word;
 use admin_wire::NameKind;
 use feed_routes::base_ok;
+use feed_words::Words;
 use fold_core::HiveName;
 use pkg_meta::NoMemory;
 use std::alloc::Global;
@@ -140,9 +142,9 @@ fn meaning_of_more<'a>(word: &str, names: &'a [String]) -> Option<Command<'a>>
     Some(Command::Names(name_kind(word)?, names))
 }
 
-/// What the words mean, and nothing where they have no meaning.
-pub fn meaning_of(alloc: Global, words: &[String]) -> Result<Option<Command<'_>>, NoMemory>
-    ensures { IfOk result (λ found. option_map asked found ≡ command_of (texts words.now)) }
+// What plain words mean.
+fn meaning_of_plain(alloc: Global, words: &[String]) -> Result<Option<Command<'_>>, NoMemory>
+    ensures { IfOk result (λ found. option_map asked found ≡ of_plain (texts words.now)) }
 {
     if let Some(word) = one_word(words) {
         return Ok(meaning_of_one(word));
@@ -153,5 +155,45 @@ pub fn meaning_of(alloc: Global, words: &[String]) -> Result<Option<Command<'_>>
     match more_words(words) {
         Some((word, names)) => Ok(meaning_of_more(word, names)),
         None => Ok(None),
+    }
+}
+
+// Whether it is `init`.
+fn is_init(command: Command<'_>) -> bool
+    ensures { result ≡ is_init (asked command.entry) }
+{
+    match command {
+        Command::Init(_) => true,
+        Command::Publish
+        | Command::Names(_, _)
+        | Command::Job(_)
+        | Command::Cursor(_)
+        | Command::Get(_) => false,
+    }
+}
+
+// Whether a command may be given this base address; `init` may be given none.
+fn may_give(alloc: Global, base: Option<&str>, init: bool) -> Result<bool, NoMemory>
+    ensures { IfOk result (λ may. may ≡ may_give (option_map (λ t. t.now) base.entry) init) }
+{
+    match base {
+        None => Ok(true),
+        Some(base) if !init => base_ok(alloc, base),
+        Some(_) => Ok(false),
+    }
+}
+
+/// What the words of a command mean, and nothing where they have no meaning. Every command but `init` may be given a base
+/// address.
+pub fn meaning_of(alloc: Global, words: &Words) -> Result<Option<Command<'_>>, NoMemory>
+    ensures { IfOk result (λ found. option_map asked found ≡ of_given (given words.now)) }
+{
+    let Some(command) = meaning_of_plain(alloc, &words.plain)? else {
+        return Ok(None);
+    };
+    if may_give(alloc, words.base(), is_init(command))? {
+        Ok(Some(command))
+    } else {
+        Ok(None)
     }
 }

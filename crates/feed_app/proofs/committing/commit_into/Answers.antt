@@ -1,7 +1,7 @@
-use Rattle.std.proofs.Common.{Ok, Err, inl, inr, refl, sym, subst}
+use Rattle.std.proofs.Common.{Ok, Err, inl, inr, option_map, refl, sym, subst}
 use Rattle.feed_app.specs.Openings.{NotOpened}
 use Rattle.feed_app.specs.declared.answer.Answer.{Answer}
-use Rattle.feed_app.proofs.Closed.{closed_by}
+use Rattle.feed_app.proofs.Closed.{allowed_by, closed_by}
 use Rattle.feed_app.proofs.Endings.{commits_behind}
 use Rattle.feed_app.proofs.Holding.{closed_spelled, open_over, opened_spelled}
 use Rattle.feed_app.proofs.committing.commit_into.Goals as goal
@@ -10,8 +10,9 @@ pub returns-in-Err-clause-ends : goal.returns-in-Err-clause-ends
 returns-in-Err-clause-ends g c =
     let s = g.B.Blobs.seen c.args.area in
     let now = g.B.Blobs.seen c.in-Err.area in
-    let closed = subst (λ (a : Answer). NotOpened a s) (sym c.of_opening.ensures)
-    (closed_by c.in-Err.error s _ c.in-Err.ensures.missing c.in-Err.ensures.damaged c.in-Err.ensures.refused) in
+    let given = option_map (λ t. t.now) c.args.base in
+    let closed = subst (λ (a : Answer). NotOpened given a s now) (sym c.of_opening.ensures)
+    (closed_by given c.in-Err.error s now _ c.in-Err.ensures.missing c.in-Err.ensures.damaged c.in-Err.ensures.refused c.in-Err.ensures.runs_refused) in
     inl (closed, closed_spelled s now _ _ c.in-Err.ensures.mends_refused c.in-Err.ensures.refused c.in-Err.ensures.moments_refused, refl)
 
 pub returns-in-Ok-commit-clause-ends : goal.returns-in-Ok-commit-clause-ends
@@ -21,6 +22,7 @@ returns-in-Ok-commit-clause-ends g c =
     let opened = open_over s now c.in-Ok.catalog _ c.in-Ok.ensures.opened in
     let spelled = opened_spelled s now c.in-Ok.catalog c.in-Ok.ensures.mends.area opened c.in-Ok.ensures.moments in
     rw c.into_area.ensures (inr (
+      allowed_by (option_map (λ t. t.now) c.args.base) s now c.in-Ok.catalog c.in-Ok.ensures.opened,
       c.moment-now.result,
       Ok c.in-Ok-commit.done,
       c.moment-now.ensures,
@@ -36,6 +38,7 @@ returns-in-Err-commit-clause-ends g c =
     let opened = open_over s now c.in-Ok.catalog _ c.in-Ok.ensures.opened in
     let spelled = opened_spelled s now c.in-Ok.catalog c.in-Ok.ensures.mends.area opened c.in-Ok.ensures.moments in
     rw c.into_area-in-Err-commit.ensures (inr (
+      allowed_by (option_map (λ t. t.now) c.args.base) s now c.in-Ok.catalog c.in-Ok.ensures.opened,
       c.moment-now.result,
       Err c.in-Err-commit.error,
       c.moment-now.ensures,

@@ -1,4 +1,4 @@
-use Rattle.std.proofs.Common.{inl, inr, refl, sym, subst}
+use Rattle.std.proofs.Common.{inl, inr, option_map, refl, sym, subst}
 use Rattle.feed_base.specs.Counts.{HasRisen}
 use Rattle.feed_routes.specs.Cuts.{target_path}
 use Rattle.feed_app.specs.declared.hives.ServedHive.TheVariants as the
@@ -7,7 +7,7 @@ use Rattle.feed_app.specs.Openings.{NotOpened}
 use Rattle.feed_app.specs.Outside.{over}
 use Rattle.feed_app.specs.Spelled.{HasCatalog, IsOpenAs, StaysSpelled}
 use Rattle.feed_app.specs.declared.answer.Answer.{Answer}
-use Rattle.feed_app.proofs.Closed.{closed_by, closed_rose, not_of_hive}
+use Rattle.feed_app.proofs.Closed.{allowed_by, closed_by, closed_rose, not_of_hive}
 use Rattle.feed_app.proofs.Gets.{explains, reads_as}
 use Rattle.feed_app.proofs.Holding.{closed_spelled, fault_rose, open_over, opened_spelled, then_spelled}
 use Rattle.feed_app.proofs.Places.{kept}
@@ -15,6 +15,7 @@ use Rattle.feed_app.proofs.get.get.Goals as goal
 
 pub returns-in-Ok : goal.returns-in-Ok
 returns-in-Ok g c = λ input clock.
+    let given = option_map (λ t. t.now) c.args.base in
     let s = g.B.Blobs.seen c.args.stores.catalog in
     let now = g.B.Blobs.seen c.in-Ok.catalog.area in
     let left = record c.args.stores {
@@ -25,8 +26,11 @@ returns-in-Ok g c = λ input clock.
     } in
     let opened = open_over s now c.in-Ok.catalog _ c.in-Ok.ensures.opened in
     let spelled = opened_spelled s now c.in-Ok.catalog c.in-Ok.ensures.mends.area opened c.in-Ok.ensures.moments in
-    let is = inr (reads_as g.B.Blobs c.document-answer.result c.args.path.now (IsOpenAs c.in-Ok.catalog now) (HasCatalog s)
-    (hive_stores c.args.stores) (hive_stores left) opened c.document-answer.ensures.is) in
+    let is = inr (
+      allowed_by given s now c.in-Ok.catalog c.in-Ok.ensures.opened,
+      reads_as g.B.Blobs c.document-answer.result c.args.path.now (IsOpenAs c.in-Ok.catalog now) (HasCatalog s)
+          (hive_stores c.args.stores) (hive_stores left) opened c.document-answer.ensures.is,
+    ) in
     record {
       keeps = record {
         catalog = subst (λ x. StaysSpelled s (g.B.Blobs.seen x)) (sym c.into_area.ensures)
@@ -36,7 +40,7 @@ returns-in-Ok g c = λ input clock.
         content = c.document-answer.ensures.keeps the.Content;
         auto = refl;
       };
-      explains = explains g.B.Blobs c.args.path.now (over c.args.stores input clock) (over left input clock) c.document-answer.result
+      explains = explains g.B.Blobs c.args.path.now (over given c.args.stores input clock) (over given left input clock) given (g.B.Blobs.seen left.catalog) c.document-answer.result
           (hive_stores c.args.stores) (hive_stores left)
           (λ e. subst (λ x. HasRisen s.faults (g.B.Blobs.seen x).faults) (sym c.into_area.ensures)
           (fault_rose s now _ _ c.in-Ok.ensures.mends c.document-answer.ensures.stays.mends e))
@@ -46,12 +50,13 @@ returns-in-Ok g c = λ input clock.
 
 pub returns-in-Err : goal.returns-in-Err
 returns-in-Err g c = λ input clock.
+    let given = option_map (λ t. t.now) c.args.base in
     let s = g.B.Blobs.seen c.args.stores.catalog in
     let now = g.B.Blobs.seen c.in-Err.area in
     let left = record c.args.stores { catalog = c.in-Err.area } in
     let path = target_path c.args.path.now in
-    let closed = subst (λ (a : Answer). NotOpened a s) (sym c.of_opening.ensures)
-    (closed_by c.in-Err.error s _ c.in-Err.ensures.missing c.in-Err.ensures.damaged c.in-Err.ensures.refused) in
+    let closed = subst (λ (a : Answer). NotOpened given a s now) (sym c.of_opening.ensures)
+    (closed_by given c.in-Err.error s now _ c.in-Err.ensures.missing c.in-Err.ensures.damaged c.in-Err.ensures.refused c.in-Err.ensures.runs_refused) in
     let is = inl (closed, λ hive. refl) in
     record {
       keeps = record {
@@ -61,9 +66,9 @@ returns-in-Err g c = λ input clock.
         content = kept g.B.Blobs path the.Content c.args.stores.content;
         auto = refl;
       };
-      explains = explains g.B.Blobs c.args.path.now (over c.args.stores input clock) (over left input clock) c.of_opening.result (hive_stores c.args.stores)
+      explains = explains g.B.Blobs c.args.path.now (over given c.args.stores input clock) (over given left input clock) given now c.of_opening.result (hive_stores c.args.stores)
           (hive_stores left)
           (closed_rose c.in-Err.error s now c.of_opening.result c.of_opening.ensures c.in-Err.ensures.mends_refused)
-          (λ hive. not_of_hive c.of_opening.result s (hive_name hive) closed) is;
+          (λ hive. not_of_hive given c.of_opening.result s now (hive_name hive) closed) is;
       acts = is;
     }
