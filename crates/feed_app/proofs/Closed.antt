@@ -83,6 +83,7 @@ pub closed_by : (given : Option (List ℕ)) (e : OpenErr) (s now : Seen) (X : Li
     → NotOpened given (open_answer e) s now
 closed_by given e s now X missing damaged refused runs = record {
   told = told_by e s missing damaged;
+  calls = (e, refl, runs);
   why = λ base cs has. why given e base (now.held ≡ s.held) (refused base cs has.lawful has.store).0 (stops_kept e s now base cs runs has);
 }
 

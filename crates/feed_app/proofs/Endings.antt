@@ -1,6 +1,8 @@
 -- What a commit answered, and what it left.
-use Rattle.std.proofs.Common.{◌≡◌, ℕ, List, Ok, Err, Result, inl, inr, refl, ◌∙◌, subst, arith}
+use Rattle.std.proofs.Common.{◌≡◌, ℕ, List, [], Option, None, Some, true, Ok, Err, Result, inl, inr, refl, ◌∙◌, subst, arith}
+use Rattle.blob_store.specs.Events.{Act}
 use Rattle.blob_store.specs.Moments.{LeavesOnly}
+use Rattle.blob_store.specs.Plans.{Makes}
 use Rattle.blob_store.specs.Seen.{Seen}
 use Rattle.blob_store.proofs.Moments.{weaker}
 use Rattle.pkg_meta.specs.Catalog.{Catalog}
@@ -11,10 +13,13 @@ use Rattle.catalog_doc.specs.declared.change.Committed.{Committed}
 use Rattle.catalog_doc.specs.declared.error.CommitErr.{CommitErr}
 use Rattle.catalog_doc.specs.declared.error.CommitErr.TheVariants.{Empty, TooMany, Twice, Exists, Absent, Already, IdFull, Full, ClockEnd, Fault, Damaged, Memory}
 use Rattle.catalog_opening.specs.Openings.{IsStoreOf}
-use Rattle.catalog_core.specs.Committing.{Commits, MayBeCommitted, with_made, WithOrWithout}
+use Rattle.catalog_rows.specs.Reasons.{misshapen}
+use Rattle.catalog_core.specs.Committing.{Commits, IsSettledBy, MayBeCommitted, RunsCommit, RunsOnto, with_made, WithOrWithout}
 use Rattle.catalog_core.specs.Opened.{IsOpenFor, Opened}
 use Rattle.catalog_items.proofs.Getting.{leaves_then}
 use Rattle.catalog_core.proofs.Frames.{known_store}
+use Rattle.catalog_core.proofs.Outcomes.{runs_behind}
+use Rattle.feed_app.specs.Calls.{ForOpenings}
 use Rattle.admin_wire.specs.declared.line.Line.TheVariants as line
 use Rattle.admin_wire.specs.declared.area.AreaName.TheVariants as area
 use Rattle.feed_app.specs.Answers.{answer_status}
@@ -69,13 +74,36 @@ with_or_without cs changes now (Err (IdFull place)) P (refused, p) = inl p
 with_or_without cs changes now (Err (Full items)) P (refused, p) = inl p
 with_or_without cs changes now (Err ClockEnd) P (refused, p) = inl p
 
+-- a settled catalog is settled by no calls
+no_settling : {B : Type 0} (o : Opened B) (cs : Catalog) (why : Option CommitErr) (first : List Act) → o.settled ≡ true → IsSettledBy o cs why first
+    → first ≡ []
+no_settling o cs None first settled (inl (is, none)) = none
+no_settling o cs None first settled (inr (unsettled, rest)) = cc (settled, unsettled)
+no_settling o cs (Some error) first settled none = none
+
+-- the calls of a commit of an open catalog, behind those of its opening
+calls_behind : {B : Type 0} (s now after : Seen) (o : Opened B) (changes : List Change) (moment : ℕ) (r : Result Committed CommitErr)
+    → IsOpenOver s o now → o.settled ≡ true → ForOpenings s (λ base cs plan. Makes plan s now)
+    → ((cs : Catalog) → IsOpenFor o now cs → RunsOnto o cs changes moment now after r)
+    → ForOpenings s (λ base cs plan. RunsCommit plan base cs changes moment s after r)
+calls_behind s now after o changes moment r over settled opens runs m base cs plan lawful there spells is =
+    let at = over base cs (record { lawful = lawful; store = (m, there, spells) }) in
+    let ran = runs cs at.1 in
+    let own = subst (λ (first : List Act). RunsCommit first o.base cs changes moment now after r)
+        (no_settling o cs (misshapen changes) ran.0 settled ran.1) ran.2 in
+    runs_behind plan base cs changes moment s now after r (opens m base cs plan lawful there spells is)
+    (subst (λ (b : List ℕ). RunsCommit [] b cs changes moment now after r) at.0 own)
+
 -- a commit of an open catalog, behind its opening
 pub commits_behind : {B : Type 0} (s now after : Seen) (o n : Opened B) (changes : List Change) (moment : ℕ) (r : Result Committed CommitErr)
     → StaysSpelled s now → IsOpenOver s o now → n.base ≡ o.base
     → ((cs : Catalog) → IsOpenFor o now cs → Commits cs changes moment r (IsOpenFor n after))
     → ((cs : Catalog) → IsOpenFor o now cs → LeavesOnly now after (λ left. WithOrWithout cs changes moment (SpellsCatalog left o.base)))
+    → o.settled ≡ true → ForOpenings s (λ base cs plan. Makes plan s now)
+    → ((cs : Catalog) → IsOpenFor o now cs → RunsOnto o cs changes moment now after r)
     → CommitsAt changes moment s after r
-commits_behind s now after o n changes moment r first over same commits moments = record {
+commits_behind s now after o n changes moment r first over same commits moments settled opens runs = record {
+  calls = calls_behind s now after o changes moment r over settled opens runs;
   commits = λ base cs has.
       let at = over base cs has in
       commits_as cs changes moment r (IsOpenFor n after) (HasCatalog after base)

@@ -59,7 +59,7 @@ not_made error.Memory base old new already left = intro old (λ m. (new ≡ Some
 
 pub init_accepts : {B : Type 0} (m : Members B) (base : List ℕ) → Accepts (init_meaning m base)
 init_accepts m base = record {
-  refused = refused m base;
-  sound = λ before after answer ready is. sound base _ _ answer is;
+  refused = λ before after answer ready acts. refused m base before after answer ready acts.0;
+  sound = λ before after answer ready acts. sound base _ _ answer acts.0;
   fits = λ before ready touched. absurd touched;
 }

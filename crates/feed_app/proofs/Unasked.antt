@@ -1,9 +1,15 @@
 -- Where there is no memory to read the words, nothing was touched, as each command may answer.
-use Rattle.std.proofs.Common.{ℕ, List, Option, None, Some, inl, inr, refl}
+use Rattle.std.proofs.Common.{ℕ, List, [], Err, Option, None, Some, inl, inr, refl}
+use Rattle.std.specs.FinMap.{get}
 use Rattle.blob_store.proofs.Moments.{started}
+use Rattle.blob_store.proofs.OneCall.{none}
 use Rattle.blob_store.specs.Area.{Area}
 use Rattle.blob_store.specs.Seen.{IsSure, Seen}
+use Rattle.catalog_doc.specs.Names.{index_name}
 use Rattle.catalog_doc.specs.Spelled.{SpellsCatalog}
+use Rattle.catalog_core.specs.Openings.{init_plan}
+use Rattle.catalog_core.specs.declared.error.InitErr.TheVariants as init
+use Rattle.catalog_opening.specs.declared.error.OpenErr.TheVariants.{Memory}
 use Rattle.admin_wire.specs.declared.line.Line.TheVariants as line
 use Rattle.feed_app.specs.Commands.{Command, Init, Get, Publish, Names, Job, Cursor}
 use Rattle.feed_app.specs.Does.{Does, meaning}
@@ -31,8 +37,12 @@ same_value Asks x = tt
 same_value Opens x = tt
 same_value Changes x = tt
 
-closed : (given : Option (List ℕ)) (s : Seen) → NotOpened given (Reply line.Memory) s s
-closed given s = record { told = tt; why = λ base cs has. inl tt }
+closed : (given : Option (List ℕ)) (s : Seen) → IsSure s → NotOpened given (Reply line.Memory) s s
+closed given s sure = record {
+  told = tt;
+  calls = (Memory, refl, λ m base cs plan lawful there spells is. inr ([], plan, refl, none s sure));
+  why = λ base cs has. inl tt;
+}
 
 module _ {B : Type 0} (m : Members B) (sure : (store : B) → IsSure (m.seen store)) where
   same_area : (touch : Touch) (store : B) → KeepsArea m touch store store
@@ -52,12 +62,13 @@ module _ {B : Type 0} (m : Members B) (sure : (store : B) → IsSure (m.seen sto
     }
 
     acts : (command : Command) → (meaning m command).acts before (Reply line.Memory) before
-    acts (Init base) = same_left base _
+    acts (Init base) = (same_left base _, Err init.Memory, refl,
+        λ area there. inr ([], init_plan base (get area index_name), refl, none _ (sure before.stores.catalog)))
     acts Publish = inl (tt, refl, refl)
     acts (Names kind pairs) = inl (tt, refl, refl)
-    acts (Job hive) = inl (closed before.given (m.seen before.stores.catalog), refl)
-    acts (Cursor hive) = inl (closed before.given (m.seen before.stores.catalog), refl)
-    acts (Get path) = inl (closed before.given (m.seen before.stores.catalog), λ hive. refl)
+    acts (Job hive) = inl (closed before.given (m.seen before.stores.catalog) (sure before.stores.catalog), refl)
+    acts (Cursor hive) = inl (closed before.given (m.seen before.stores.catalog) (sure before.stores.catalog), refl)
+    acts (Get path) = inl (closed before.given (m.seen before.stores.catalog) (sure before.stores.catalog), λ hive. refl)
 
     pub no_memory : (asked : Option Command) → Does m asked before (Reply line.Memory) before
     no_memory None = (inr refl, refl)

@@ -1,5 +1,6 @@
 pub mod Accepts
 pub mod Answers
+pub mod Calls
 pub mod Causes
 pub mod Commands
 pub mod Cursors

@@ -8,6 +8,7 @@ use Rattle.catalog_opening.specs.Openings.{IsAllowedBase, IsDamagedOf}
 use Rattle.admin_wire.specs.declared.area.AreaName.TheVariants as area
 use Rattle.admin_wire.specs.declared.line.Line.TheVariants as line
 use Rattle.admin_wire.specs.declared.line.Refusal.TheVariants as refusal
+use Rattle.feed_app.specs.Calls.{StopsAsTold}
 use Rattle.feed_app.specs.Spelled.{ForSpelled}
 use Rattle.feed_app.specs.declared.answer.Answer.{Answer}
 use Rattle.feed_app.specs.declared.answer.Answer.TheVariants.{Reply}
@@ -39,4 +40,5 @@ MayOpen given s = ForSpelled s (λ base cs. IsAllowedBase given base)
 -- is given; then the area is as it was.
 pub record NotOpened (given : Option (List ℕ)) (answer : Answer) (old new : Seen) : Type 0 where
   pub told : OpensNone answer old
+  pub calls : StopsAsTold answer old new
   pub why : ForSpelled old (λ base cs. IsOfStore answer ⊎ (TellsBases given base answer × (new.held ≡ old.held)))

@@ -17,7 +17,8 @@ use Rattle.catalog_doc.specs.Spelled.{SpellsCatalog}
 use Rattle.catalog_doc.specs.declared.change.Change.{Change}
 use Rattle.catalog_doc.specs.declared.change.Committed.{Committed}
 use Rattle.catalog_doc.specs.declared.error.CommitErr.{CommitErr}
-use Rattle.catalog_core.specs.Committing.{Commits, MayBeCommitted, WithOrWithout, with_made}
+use Rattle.catalog_core.specs.Committing.{Commits, MayBeCommitted, RunsCommit, WithOrWithout, with_made}
+use Rattle.feed_app.specs.Calls.{ForOpenings}
 use Rattle.feed_app.specs.Causes.{commit_answer}
 use Rattle.feed_app.specs.Frame.{Meaning, Changes, most_input, nothing}
 use Rattle.feed_app.specs.Openings.{MayOpen, NotOpened}
@@ -49,10 +50,11 @@ commit_reply (Ok done) = Reply (line.Committed done.number done.stamp)
 commit_reply (Err error) = commit_answer error
 
 -- The commit of these changes ended so, of every catalog that was spelled. A crash at each moment leaves an area that spells
--- the catalog with the commit or without it.
+-- the catalog with the commit or without it. The calls are those of the opening, and the commit's behind them, as the result tells.
 pub record CommitsAt (changes : List Change) (now : ℕ) (old new : Seen) (result : Result Committed CommitErr) : Type 0 where
   pub commits : ForSpelled old (λ base cs. Commits cs changes now result (HasCatalog new base))
   pub moments : ForSpelled old (λ base cs. LeavesOnly old new (λ left. WithOrWithout cs changes now (SpellsCatalog left base)))
+  pub calls : ForOpenings old (λ base cs plan. RunsCommit plan base cs changes now old new result)
 
 -- the catalog that was spelled is spelled with one commit behind the others, which the verdict took
 abbrev pub HasCommit : Seen → Seen → Type 0

@@ -2,7 +2,7 @@
 ghost use Rattle.std.specs.Prelude.{◌≡◌, ◌≤◌, ℕ, List, Option};
 ghost use Rattle.feed_base.specs.Counts.{HasRisen};
 ghost use Rattle.feed_app.specs.Frame.{IsDone};
-ghost use Rattle.feed_app.specs.Inits.{Inits, init_meaning};
+ghost use Rattle.feed_app.specs.Inits.{InitCalls, Inits, init_meaning};
 ghost use Rattle.feed_app.specs.Outside.{Stream, over};
 
 use crate::answer::Answer;
@@ -14,6 +14,7 @@ use std::alloc::Global;
 // Makes the catalog of no commits in the area.
 fn init_at<B: Blobs>(alloc: Global, area: B, base: &str) -> (Answer, B)
     ensures is { Inits base.now (B.seen area).held result.0 (B.seen result.1).held }
+    ensures calls { InitCalls base.now result.0 (B.seen area) (B.seen result.1) }
     ensures cause { result.0 ≡ Answer.Reply (Line.Fault AreaName.Catalog) → HasRisen (B.seen area).faults (B.seen result.1).faults }
 {
     match catalog_core::init(alloc, area, base) {
