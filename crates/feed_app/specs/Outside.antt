@@ -4,7 +4,9 @@ use Rattle.blob_store.specs.Area.{Area}
 use Rattle.blob_store.specs.declared.blobs.Blobs as store
 use Rattle.catalog_core.specs.declared.stores.Stores.{Stores}
 use Rattle.feed_base.specs.Counts.{HasRisen}
-use Rattle.feed_base.specs.declared.outside as bound
+use Rattle.feed_base.specs.declared.outside.Clock as clock_of
+use Rattle.feed_base.specs.declared.outside.Sink as sink_of
+use Rattle.feed_base.specs.declared.outside.Source as source_of
 use Rattle.admin_wire.specs.declared.area.AreaName.{AreaName}
 use Rattle.admin_wire.specs.declared.area.AreaName.TheVariants.{Catalog, Hive}
 use Rattle.fold_core.specs.declared.hive.HiveName.{HiveName}
@@ -65,17 +67,17 @@ outside stores input output clock = record { stores = stores; input = input; out
 -- what is told of all that
 pub record Bounds (B I O C : Type 0) : Type 1 where
   pub blobs : Members B
-  pub source : bound.Source.Ghosts I
-  pub sink : bound.Sink.Ghosts O
-  pub clocks : bound.Clock.Ghosts C
+  pub source : source_of.Ghosts I
+  pub sink : sink_of.Ghosts O
+  pub clocks : clock_of.Ghosts C
 
-abbrev pub bounds : {B I O C : Type 0} → Members B → bound.Source.Ghosts I → bound.Sink.Ghosts O → bound.Clock.Ghosts C → Bounds B I O C
+abbrev pub bounds : {B I O C : Type 0} → Members B → source_of.Ghosts I → sink_of.Ghosts O → clock_of.Ghosts C → Bounds B I O C
 bounds blobs source sink clocks = record { blobs = blobs; source = source; sink = sink; clocks = clocks }
 
-abbrev pub input_of : {I : Type 0} → bound.Source.Ghosts I → I → Stream
+abbrev pub input_of : {I : Type 0} → source_of.Ghosts I → I → Stream
 input_of source input = record { told = source.left input; faults = source.faults input }
 
-abbrev pub output_of : {O : Type 0} → bound.Sink.Ghosts O → O → Stream
+abbrev pub output_of : {O : Type 0} → sink_of.Ghosts O → O → Stream
 output_of sink output = record { told = sink.written output; faults = sink.faults output }
 
 -- what a command sees of it, to which this base address is given

@@ -1,0 +1,135 @@
+-- What a job's round left.
+use Rattle.std.proofs.Common.{◌≡◌, inl, inr, ℕ, List, length, Some, Ok, Err, Result, sym, ◌∙◌, ap, subst, arith}
+use Rattle.std.proofs.lemmas.List.{take_all}
+use Rattle.std.specs.Option.{option_and_then}
+use Rattle.blob_store.specs.Area.{Area}
+use Rattle.blob_store.specs.Moments.{LeavesOnly}
+use Rattle.blob_store.specs.Seen.{IsSure, Seen}
+use Rattle.blob_store.proofs.Moments.{started}
+use Rattle.pkg_meta.specs.Catalog.{Catalog}
+use Rattle.catalog_core.specs.Opened.{IsOpenFor}
+use Rattle.fold_core.specs.Docs.{doc_at, owner}
+use Rattle.fold_core.specs.Folds.{Fold}
+use Rattle.fold_core.specs.declared.hive.HiveName.{HiveName}
+use Rattle.hive_laws.specs.Areas.{SettledArea, SoundArea}
+use Rattle.id_pass.specs.declared.error.RoundErr.{RoundErr}
+use Rattle.id_pass.specs.declared.error.RoundErr.TheVariants as stop
+use Rattle.id_pass.specs.declared.error.RoundOut.{RoundOut}
+use Rattle.id_pass.specs.declared.error.RoundOut.TheVariants as out
+use Rattle.job_round.specs.Answers.{told_number}
+use Rattle.round_laws.specs.OnAreas.{HoldsArea, IsSoundOrSettled, OnSoundArea}
+use Rattle.round_laws.proofs.Leaving.{keeps_either}
+use Rattle.round_laws.proofs.Rounding as rounding
+use Rattle.admin_wire.specs.declared.area.AreaName.TheVariants as area
+use Rattle.admin_wire.specs.declared.line.Line.{Line}
+use Rattle.admin_wire.specs.declared.line.Line.TheVariants as line
+use Rattle.feed_app.specs.Answers.{answer_status}
+use Rattle.feed_app.specs.Damages.{IsLostOfHive, IsUnread}
+use Rattle.feed_app.specs.Hives.{hive_fold, keeps_in, makes_in}
+use Rattle.feed_app.specs.Jobs.{Jobs, MadeOver, RoundMade, RoundTold}
+use Rattle.feed_app.specs.Outside.{Members}
+use Rattle.feed_app.specs.Spelled.{HasCatalog, IsSpelled}
+use Rattle.feed_app.specs.declared.answer.Answer.{Answer}
+use Rattle.feed_app.specs.declared.answer.Answer.TheVariants.{Reply}
+use Rattle.feed_app.proofs.Closed.{of_store_not}
+use Rattle.app_laws.specs.Scratch.{IsMadeOf, from_scratch}
+use Rattle.app_laws.proofs.HiveLaws.{laws_of, staged_in}
+
+-- the line for what a round answered
+abbrev pub line_of : HiveName → RoundOut → Line
+line_of hive (out.Done n) = line.Done hive n
+line_of hive (out.Idle n) = line.Idle hive n
+
+module _ (hive : HiveName) (Made : Result RoundOut RoundErr → Type 0) (Unread Lost : List ℕ → Type 0) where
+  -- the answer tells of a round that was made
+  made_of : (answer : Answer) → RoundTold Made Unread Lost hive answer → (result : Result RoundOut RoundErr) × Made result
+  made_of (Reply (line.Done which n)) is = (Ok (out.Done n), is.1)
+  made_of (Reply (line.Idle which n)) is = (Ok (out.Idle n), is.1)
+  made_of (Reply (line.Fault area.Catalog)) is = (Err stop.CatalogFault, is)
+  made_of (Reply (line.Fault (area.Hive which))) is = (Err stop.HiveFault, is.1)
+  made_of (Reply (line.Damaged area.Catalog name)) is = (Err (stop.Damaged is.1.0), is.1.1)
+  made_of (Reply (line.Damaged (area.Hive which) name)) is = (Err (stop.Damaged is.2.0), is.2.1)
+  made_of (Reply line.Memory) (inl made) = (Err stop.Memory, made)
+  made_of (Reply line.Memory) (inr (text, made)) = (Err (stop.Damaged text), made)
+  made_of _ is = absurd is
+
+  -- of status 0, of one that ended
+  ended_of : (answer : Answer) → RoundTold Made Unread Lost hive answer → answer_status answer ≡ 0
+      → (told : RoundOut) × Made (Ok told) × (answer ≡ Reply (line_of hive told))
+  ended_of (Reply (line.Done which n)) is zero = (out.Done n, is.1, ap (λ (h : HiveName). Reply (line.Done h n)) is.0)
+  ended_of (Reply (line.Idle which n)) is zero = (out.Idle n, is.1, ap (λ (h : HiveName). Reply (line.Idle h n)) is.0)
+  ended_of (Reply (line.Fault name)) is zero = absurd (omega (arith, zero))
+  ended_of (Reply (line.Damaged name blob)) is zero = absurd (omega (arith, zero))
+  ended_of (Reply line.Memory) is zero = absurd (omega (arith, zero))
+  ended_of _ is zero = absurd is
+
+module _ {B : Type 0} (m : Members B) (hive : HiveName) (catalog old new : Seen) (base : List ℕ) (cs : Catalog) (c : ℕ) (blobs : Area)
+    (has : HasCatalog catalog base cs) (is : old.held ≡ Some blobs) (sound : SoundArea (hive_fold hive base) cs c blobs) where
+  abbrev f : Fold
+  f = hive_fold hive base
+
+  -- the catalog that was opened is this one
+  made_at_base : (result : Result RoundOut RoundErr) (over : MadeOver m hive catalog old new result)
+      → RoundMade f (IsOpenFor over.0 (m.seen over.0.area)) old new result
+  made_at_base result over = subst (λ (x : List ℕ). RoundMade (hive_fold hive x) (IsOpenFor over.0 (m.seen over.0.area)) old new result) (over.1 base cs has).0 over.2
+
+  on_it : (result : Result RoundOut RoundErr) (over : MadeOver m hive catalog old new result)
+      → OnSoundArea f (IsOpenFor over.0 (m.seen over.0.area)) cs c blobs old
+  on_it result over = record { meant = (over.1 base cs has).1; catalog = has.lawful; held = is; sound = sound }
+
+  abbrev Either : Area → Type 0
+  Either left = IsSoundOrSettled f cs c left
+
+  kept : (result : Result RoundOut RoundErr) → MadeOver m hive catalog old new result → HoldsArea new Either × LeavesOnly old new Either
+  kept result over =
+      keeps_either (keeps_in hive) (makes_in hive) base (staged_in hive) cs (IsOpenFor over.0 (m.seen over.0.area)) c blobs old new
+      (laws_of hive base cs has.lawful.lawful) (on_it result over) result (made_at_base result over).runs
+
+  settled : (told : RoundOut) → MadeOver m hive catalog old new (Ok told) → HoldsArea new (SettledArea f cs (length cs))
+  settled (out.Done n) over =
+      rounding.settled (keeps_in hive) (makes_in hive) base (staged_in hive) cs (IsOpenFor over.0 (m.seen over.0.area)) c blobs old new
+      (laws_of hive base cs has.lawful.lawful) (on_it (Ok (out.Done n)) over) n (made_at_base (Ok (out.Done n)) over).runs
+  settled (out.Idle n) over =
+      let idle = rounding.idle_settled (keeps_in hive) (makes_in hive) base (staged_in hive) cs (IsOpenFor over.0 (m.seen over.0.area)) c blobs old new
+      (laws_of hive base cs has.lawful.lawful) (on_it (Ok (out.Idle n)) over) n (made_at_base (Ok (out.Idle n)) over).runs in
+      (blobs, idle.0, idle.1)
+
+  number : (told : RoundOut) → MadeOver m hive catalog old new (Ok told) → told_number told ≡ length cs
+  number told over = (made_at_base (Ok told) over).number cs (over.1 base cs has).1
+
+  pub job_ended : {Same : Type 0} (answer : Answer) → Jobs m hive answer catalog Same old new → answer_status answer ≡ 0
+      → HoldsArea new (SettledArea f cs (length cs)) × ((told : RoundOut) × (told_number told ≡ length cs) × (answer ≡ Reply (line_of hive told)))
+  job_ended answer (inl (closed, same)) zero =
+      absurd (of_store_not answer 0 (closed.of_store base cs has) zero (λ e. omega (arith, e)) (λ e. omega (arith, e)))
+  job_ended answer (inr told) zero =
+      let end = ended_of hive (MadeOver m hive catalog old new) (IsUnread catalog.held) (IsLostOfHive (IsSpelled catalog) new.held) answer told zero in
+      (settled end.0 end.1, (end.0, number end.0 end.1, end.2))
+
+  pub job_kept : {Same : Type 0} (answer : Answer) → (Same → HoldsArea new Either × LeavesOnly old new Either) → Jobs m hive answer catalog Same old new
+      → HoldsArea new Either × LeavesOnly old new Either
+  job_kept answer unmoved (inl (closed, same)) = unmoved same
+  job_kept answer unmoved (inr told) =
+      let made = made_of hive (MadeOver m hive catalog old new) (IsUnread catalog.held) (IsLostOfHive (IsSpelled catalog) new.held) answer told in
+      kept made.0 made.1
+
+-- where nothing was asked
+pub unmoved : {B : Type 0} (m : Members B) (old new : B) (blobs : Area) (P : Area → Type 0) → IsSure (m.seen old) → (m.seen old).held ≡ Some blobs → P blobs → new ≡ old
+    → HoldsArea (m.seen new) P × LeavesOnly (m.seen old) (m.seen new) P
+unmoved {B} m old new blobs P sure is here same =
+    subst (λ (x : B). HoldsArea (m.seen x) P × LeavesOnly (m.seen old) (m.seen x) P) (sym same)
+    ((blobs, is, here), started (m.seen old) blobs P sure is here)
+
+-- a settled area is what the hive makes of the catalog from scratch
+pub scratch_of : (hive : HiveName) (base : List ℕ) (cs : Catalog) (key name : List ℕ) → owner name ≡ Some key
+    → from_scratch hive base cs name ≡ doc_at (keeps_in hive) (makes_in hive) base cs key name
+scratch_of hive base cs key name own = ap (option_and_then (λ (q : List ℕ). doc_at (keeps_in hive) (makes_in hive) base cs q name)) own
+
+pub made_of_all : (hive : HiveName) (base : List ℕ) (cs : Catalog) (left : Area) → SettledArea (hive_fold hive base) cs (length cs) left → IsMadeOf hive base cs left
+made_of_all hive base cs left settled = record {
+  documents = λ key name own.
+      (settled.1.settled key).holds name own
+      ∙ ap (λ (ds : Catalog). doc_at (keeps_in hive) (makes_in hive) base ds key name) (take_all (length cs) cs (omega arith))
+      ∙ sym (scratch_of hive base cs key name own);
+  cursor = settled.1.area.cursor;
+  others = settled.1.area.known;
+}

@@ -1,0 +1,9 @@
+pub mod Fates
+pub mod Documents
+pub mod Growth
+pub mod HiveLaws
+pub mod Histories
+pub mod JobRounds
+pub mod Kept
+pub mod Runs
+pub mod Stores

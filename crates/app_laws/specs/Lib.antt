@@ -1,0 +1,3 @@
+pub mod Feeds
+pub mod Histories
+pub mod Scratch
