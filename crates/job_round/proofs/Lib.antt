@@ -10,6 +10,9 @@ pub mod Making
 pub mod Owners
 pub mod Passing
 pub mod Placing
+pub mod Reading
+pub mod ReadTelling
+pub mod ReadPasses
 pub mod Stays
 pub mod Rounding
 pub mod Staying

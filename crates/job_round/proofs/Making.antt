@@ -1,6 +1,7 @@
 -- Calls of a pass as they are made, one behind the other.
-use Rattle.std.proofs.Common.{◌≡◌, ℕ, List, [], ◌∷◌, ◌++◌, map, drop, Bool, None, Some, Ok, Err, Result, refl, sym, ◌∙◌, ap, subst, append_assoc, append-nil}
+use Rattle.std.proofs.Common.{◌≡◌, ℕ, List, [], ◌∷◌, ◌++◌, map, drop, Bool, true, None, Some, Ok, Err, Result, refl, sym, ◌∙◌, ap, subst, append_assoc, append-nil}
 use Rattle.std.specs.Prelude.{IsErrOf}
+use Rattle.std.proofs.lemmas.Grind.{flat_map-append}
 use Rattle.std.proofs.lemmas.List.{map-append}
 use Rattle.std.specs.List.{Contains, slice_get}
 use Rattle.std.specs.Option.{is_some}
@@ -21,11 +22,13 @@ use Rattle.fold_core.specs.declared.doc.Body.TheVariants.{Made, Staged as FromPu
 use Rattle.id_pass.specs.declared.call.Call.{Call}
 use Rattle.id_pass.specs.declared.call.Call.TheVariants.{Put, Remove}
 use Rattle.job_round.specs.Made.{AreMade, AreSomeMade, IsBody, IsMadeCall, RunsCalls}
+use Rattle.job_round.specs.Reads.{Reads, StopsReading, bodies_of, body_of}
 use Rattle.job_round.specs.Stops.{JobHaltsAt, RunsOne}
 use Rattle.job_round.specs.declared.stop.Stop.{Stop}
 use Rattle.job_round.specs.declared.stop.Stop.TheVariants.{CatalogFault}
 use Rattle.job_round.proofs.Bodies.{brought_of}
 use Rattle.job_round.proofs.Halting.{halts_of, halts_then}
+use Rattle.job_round.proofs.Reading.{reads_early, reads_then, reads_told}
 use Rattle.job_round.proofs.Staying.{quiet_ok, stays_next, stays_on, stays_still, stays_well, stopped, well, went_well}
 
 module _ (Q R : Catalog → Type 0) (more : (cs : Catalog) → R cs → Q cs) where
@@ -94,6 +97,7 @@ pub record RunSoFar {B : Type 0} (o n : Opened B) (s t : Seen) (old new : Seen) 
   pub split : whole ≡ done ++ left
   pub all : AreMade (IsOpenFor o s) done made
   pub ran : Makes (map Change made) old new
+  pub read : o.settled ≡ true → Makes (bodies_of done) s t
 
 pub head_is : (left : List Call) (call : Call) → Some call ≡ slice_get left 0 → left ≡ call ∷ drop 1 left
 head_is [] call is = absurd (let no : ⊥ = cc in no)
@@ -104,7 +108,7 @@ none_left [] is = refl
 none_left (x ∷ left) is = absurd (let no : ⊥ = cc in no)
 
 pub run_none : {B : Type 0} (o : Opened B) (s old : Seen) (whole : List Call) → IsSure s → IsSure old → RunSoFar o o s s old old whole whole
-run_none o s old whole sure quiet = record { stays = stays_still o s went_well sure (quiet_ok tt); done = []; made = []; split = refl; all = tt; ran = none old quiet }
+run_none o s old whole sure quiet = record { stays = stays_still o s went_well sure (quiet_ok tt); done = []; made = []; split = refl; all = tt; ran = none old quiet; read = λ settled. none s sure }
 
 module _ {B : Type 0} (o mid n : Opened B) (s t u : Seen) (old now new : Seen) (whole left : List Call) (so_far : RunSoFar o mid s t old now whole left) where
   open_then : (cs : Catalog) → IsOpenFor o s cs → IsOpenFor mid t cs
@@ -114,15 +118,31 @@ module _ {B : Type 0} (o mid n : Opened B) (s t u : Seen) (old now new : Seen) (
     own : left ≡ call ∷ drop 1 left
     own = head_is left call is
 
-    pub run_more : {A : Type 0} (x : A) → StaysOpen mid n t u (IsErrOf (well x) CatalogFault) → RunsCalls (IsOpenFor mid t) (call ∷ []) now new (well x) → RunSoFar o n s u old new whole (drop 1 left)
-    run_more x stays (more, these, runs) = record {
+    pub run_more : {A : Type 0} (x : A) → StaysOpen mid n t u (IsErrOf (well x) CatalogFault) → RunsCalls (IsOpenFor mid t) (call ∷ []) now new (well x)
+        → (mid.settled ≡ true → Reads (bodies_of (call ∷ [])) t u (well x)) → RunSoFar o n s u old new whole (drop 1 left)
+    run_more x stays (more, these, runs) reads = record {
       stays = stays_next o mid n s t u tt went_well so_far.stays (stays_well mid n t u x went_well (quiet_ok tt) stays);
       done = so_far.done ++ call ∷ [];
       made = so_far.made ++ more;
       split = so_far.split ∙ ap (λ (l : List Call). so_far.done ++ l) own ∙ sym (append_assoc so_far.done (call ∷ []) (drop 1 left));
       all = made_joined (IsOpenFor o s) so_far.done (call ∷ []) so_far.made more so_far.all (weaker_all (IsOpenFor mid t) (IsOpenFor o s) open_then (call ∷ []) more these);
       ran = subst (λ (l : List Act). Makes l old new) (sym (map-append Change so_far.made more)) (makes_then (map Change so_far.made) (map Change more) old now new so_far.ran runs);
+      read = λ settled.
+          subst (λ (l : List Act). Makes l s u) (sym (flat_map-append body_of so_far.done (call ∷ [])))
+          (makes_then (bodies_of so_far.done) (bodies_of (call ∷ [])) s t u (so_far.read settled) (reads (so_far.stays.settled settled).0));
     }
+
+    pub run_unread : {A : Type 0} (stop : Stop) (r : Result A Stop) → r ≡ Err stop → (mid.settled ≡ true → StopsReading (bodies_of (call ∷ [])) stop t u) → o.settled ≡ true
+        → Reads (bodies_of whole) s u r
+    run_unread stop r told reads settled =
+        let same : whole ≡ (so_far.done ++ call ∷ []) ++ drop 1 left = so_far.split ∙ ap (λ (l : List Call). so_far.done ++ l) own ∙ sym (append_assoc so_far.done (call ∷ []) (drop 1 left)) in
+        let all : bodies_of whole ≡ (bodies_of so_far.done ++ bodies_of (call ∷ [])) ++ bodies_of (drop 1 left) =
+        ap bodies_of same ∙ flat_map-append body_of (so_far.done ++ call ∷ []) (drop 1 left)
+        ∙ ap (λ (l : List Act). l ++ bodies_of (drop 1 left)) (flat_map-append body_of so_far.done (call ∷ [])) in
+        reads_told (bodies_of whole) s u stop r told
+        (subst (λ (l : List Act). StopsReading l stop s u) (sym all)
+        (reads_early (bodies_of so_far.done ++ bodies_of (call ∷ [])) (bodies_of (drop 1 left)) stop s u
+        (reads_then (bodies_of so_far.done) (bodies_of (call ∷ [])) stop s t u (so_far.read settled) (reads (so_far.stays.settled settled).0))))
 
     pub run_stopped : {A : Type 0} (stop : Stop) (r : Result A Stop) → r ≡ Err stop → RunsCalls (IsOpenFor mid t) (call ∷ []) now new (stopped (Unit {0}) stop) → RunsCalls (IsOpenFor o s) whole old new r
     run_stopped {A} stop r told (more, some, halts) =
@@ -143,3 +163,8 @@ module _ {B : Type 0} (o mid n : Opened B) (s t u : Seen) (old now new : Seen) (
   run_ended is =
       let same : whole ≡ so_far.done = so_far.split ∙ ap (λ (l : List Call). so_far.done ++ l) (none_left left is) ∙ append-nil so_far.done in
       (so_far.made, subst (λ (l : List Call). AreMade (IsOpenFor o s) l so_far.made) (sym same) so_far.all, so_far.ran)
+
+  pub run_read : None ≡ slice_get left 0 → o.settled ≡ true → Makes (bodies_of whole) s t
+  run_read is settled =
+      let same : whole ≡ so_far.done = so_far.split ∙ ap (λ (l : List Call). so_far.done ++ l) (none_left left is) ∙ append-nil so_far.done in
+      subst (λ (l : List Call). Makes (bodies_of l) s t) (sym same) (so_far.read settled)

@@ -84,7 +84,7 @@ module _ (f : Fold) (c target : ℕ) (Q R : Catalog → Type 0) (more : (cs : Ca
   fewer_passes h (p ∷ passes) all = (fewer_whole h p all.0, fewer_passes (held_after (pass_plan p) h) passes all.1)
 
 module _ (f : Fold) (Q : Catalog → Type 0) (c target : ℕ) where
-  whole_joined : (h : Option Area) (passes : List Pass) (p : Pass) → AreWholePasses f Q c target h passes → IsWholePass f Q c target (held_after (passes_plan passes) h) p
+  pub whole_joined : (h : Option Area) (passes : List Pass) (p : Pass) → AreWholePasses f Q c target h passes → IsWholePass f Q c target (held_after (passes_plan passes) h) p
       → AreWholePasses f Q c target h (passes ++ p ∷ [])
   whole_joined h [] p all here = (subst (λ (x : Option Area). IsWholePass f Q c target x p) (held_none h) here, tt)
   whole_joined h (x ∷ passes) p all here =
@@ -116,10 +116,10 @@ module _ (f : Fold) (Q : Catalog → Type 0) (c target : ℕ) where
 
   -- in a loop
   module _ (ids : List IdRows) (i : ℕ) (id : IdRows) (within : i < length ids) (is : id ≡ get_or ids i id) where
-    next_keys : map key_of_id (take i ids) ++ id.key ∷ [] ≡ map key_of_id (take (i + 1) ids)
+    pub next_keys : map key_of_id (take i ids) ++ id.key ∷ [] ≡ map key_of_id (take (i + 1) ids)
     next_keys = ap (λ (x : IdRows). map key_of_id (take i ids) ++ x.key ∷ []) is ∙ sym (ap (map key_of_id) (take_more ids i id within) ∙ map-append key_of_id (take i ids) (get_or ids i id ∷ []))
 
-    all_keys : map key_of_id (take i ids) ++ id.key ∷ map key_of_id (drop (i + 1) ids) ≡ map key_of_id ids
+    pub all_keys : map key_of_id (take i ids) ++ id.key ∷ map key_of_id (drop (i + 1) ids) ≡ map key_of_id ids
     all_keys = sym (append_assoc (map key_of_id (take i ids)) (id.key ∷ []) (map key_of_id (drop (i + 1) ids))) ∙ ap (λ (l : List (List ℕ)). l ++ map key_of_id (drop (i + 1) ids)) next_keys
         ∙ sym (map-append key_of_id (take (i + 1) ids) (drop (i + 1) ids)) ∙ ap (map key_of_id) (take-append-drop (i + 1) ids)
 

@@ -1,11 +1,12 @@
 -- The items of rows.
-use Rattle.std.proofs.Common.{◌≡◌, ◌<◌, ◌≤◌, ◌+◌, ◌⊎◌, ℕ, zero, suc, List, [], ◌∷◌, ◌++◌, length, take, get_or, map, Bool, true, false, cond, Some, inl, ⊎_elim, refl, sym, ◌∙◌, ap, ap₂, subst, append-nil, arith}
+use Rattle.std.proofs.Common.{◌≡◌, ◌<◌, ◌≤◌, ◌+◌, ◌⊎◌, ℕ, zero, suc, List, [], ◌∷◌, ◌++◌, length, take, get_or, map, Bool, true, false, cond, Option, Some, inl, ⊎_elim, refl, sym, ◌∙◌, ap, ap₂, subst, append-nil, arith}
 use Rattle.std.proofs.lemmas.Bool.{lt-ltb, le-ltb}
 use Rattle.std.proofs.lemmas.List.{length-map, map-append, take_all}
 use Rattle.std.proofs.lemmas.List.Elements.{Contains-append_cases}
 use Rattle.std.specs.List.{Contains, filter, slice_get}
 use Rattle.std.specs.Prelude.{IsErrOf, IfSome}
 use Rattle.blob_store.specs.Area.{Area}
+use Rattle.blob_store.specs.Plans.{Makes}
 use Rattle.blob_store.specs.Seen.{Seen}
 use Rattle.pkg_meta.specs.Catalog.{Catalog}
 use Rattle.pkg_meta.specs.Items.{id_of, version_of, is_gone}
@@ -25,6 +26,7 @@ use Rattle.id_pass.specs.Placing.{all_as_placed, as_placed}
 use Rattle.id_pass.specs.declared.placed.Placed.{Placed as Given}
 use Rattle.catalog_rows.specs.Last.{row_of}
 use Rattle.job_round.specs.Items.{AreOf, IsLostBlob, is_behind}
+use Rattle.job_round.specs.Reads.{AreKept, leaves_behind}
 use Rattle.job_round.specs.Stops.{IsStopOfCatalog, catalog_stop_of}
 use Rattle.job_round.specs.declared.stop.Stop.{Stop}
 use Rattle.job_round.specs.declared.stop.Stop.TheVariants.{CatalogFault}
@@ -56,16 +58,19 @@ pub gone_of : (what : Item) → is_gone what ≡ true → the.Gone (id_of what) 
 gone_of (the.Details d) gone = absurd (let no : ⊥ = cc in no)
 gone_of (the.Gone i v) gone = refl
 
--- a leaf that wasn't read
+-- the leaf of a row that is kept wasn't read
 pub leaf_lost : {B : Type 0} (o n : Opened B) (s t : Seen) (number place : ℕ) (error : ReadErr) (stop : Stop) → stop ≡ catalog_stop_of error
     → ((m now : Area) → s.held ≡ Some m → t.held ≡ Some now → IfDamagedBy error (λ name. IsUnsettled m o name ⊎ ((name ≡ leaf_name number place) × IfSome (row_with number place n.kept.rows) (HasNoLeaf now n.base))))
-    → o.settled ≡ true → t.held ≡ s.held → IsStopOfCatalog (IsLostBlob n t) stop
-leaf_lost o n s t number place error stop told damaged settled same = subst (IsStopOfCatalog (IsLostBlob n t)) (sym told) (by error damaged)
+    → o.settled ≡ true → t.held ≡ s.held → (row : Row) → row_with number place n.kept.rows ≡ Some row → IsStopOfCatalog (IsLostBlob n t) stop
+leaf_lost o n s t number place error stop told damaged settled same row stands_there = subst (IsStopOfCatalog (IsLostBlob n t)) (sym told) (by error damaged)
   where
+    no_leaf : (m : Area) → IfSome (row_with number place n.kept.rows) (HasNoLeaf m n.base) → HasNoLeaf m n.base row
+    no_leaf m lost = subst (λ (found : Option Row). IfSome found (HasNoLeaf m n.base)) stands_there lost
+
     by : (e : ReadErr) → ((m now : Area) → s.held ≡ Some m → t.held ≡ Some now → IfDamagedBy e (λ name. IsUnsettled m o name ⊎ ((name ≡ leaf_name number place) × IfSome (row_with number place n.kept.rows) (HasNoLeaf now n.base))))
         → IsStopOfCatalog (IsLostBlob n t) (catalog_stop_of e)
     by (reading.Damaged name) lost = λ m is.
-        ⊎_elim (λ here. let no : ⊥ = cc in absurd no) (λ there. inl (number, place, there.0, there.1)) (lost m m (sym same ∙ is) is)
+        ⊎_elim (λ here. let no : ⊥ = cc in absurd no) (λ there. inl (number, place, there.0, (row, stands_there, no_leaf m there.1))) (lost m m (sym same ∙ is) is)
     by reading.Fault lost = tt
     by reading.Memory lost = tt
 
@@ -90,6 +95,7 @@ filter_more p (y ∷ xs) x =
 pub record ItemsSoFar {B : Type 0} (o n : Opened B) (s t : Seen) (rows : List Row) (at i : ℕ) (items : List Given) : Type 0 where
   pub stays : StaysOpen o n s t (IsErrOf went_well CatalogFault)
   pub items_are : (cs : Catalog) (xs : List Placed) → IsOpenFor o s cs → AreOf cs xs → rows ≡ map row_of xs → all_as_placed items ≡ filter (is_behind at) (take i xs)
+  pub read : o.settled ≡ true → AreKept o.kept.rows rows → Makes (leaves_behind at (take i rows)) s t
 
 module _ (rows : List Row) (at i : ℕ) (row : Row) (within : i < length rows) (is : row ≡ get_or rows i row) (xs : List Placed) (same : rows ≡ map row_of xs) where
   pub there : (x : Placed) × (take (suc i) xs ≡ take i xs ++ x ∷ []) × Contains xs x × (row ≡ row_of x)

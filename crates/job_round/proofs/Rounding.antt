@@ -1,10 +1,10 @@
 -- A round: the cursor, the rows behind it, and what is taken up.
-use Rattle.std.proofs.Common.{◌≡◌, ◌<◌, ◌≤◌, ◌-◌, ℕ, List, [], ◌∷◌, ◌++◌, length, map, true, Option, Some, None, IfSome, IfOk, IfErr, Ok, Err, Result, inl, inr, sym, ◌∙◌, subst, arith}
+use Rattle.std.proofs.Common.{◌≡◌, ◌<◌, ◌≤◌, ◌-◌, ℕ, List, [], ◌∷◌, ◌++◌, length, map, true, Option, Some, None, IfSome, IfOk, IfErr, Ok, Err, Result, inl, inr, refl, sym, ◌∙◌, ap, subst, arith}
 use Rattle.std.specs.FinMap.{get}
 use Rattle.std.specs.List.{slice_get}
 use Rattle.std.specs.Prelude.{IsErrOf, ⊤}
 use Rattle.blob_store.specs.Area.{Area}
-use Rattle.blob_store.specs.Events.{Get}
+use Rattle.blob_store.specs.Events.{Act, Get}
 use Rattle.blob_store.specs.Plans.{Makes}
 use Rattle.blob_store.specs.Seen.{Seen}
 use Rattle.blob_store.proofs.Following.{makes_then, stops_behind}
@@ -15,6 +15,7 @@ use Rattle.catalog_items.specs.ByRows.{rows_above}
 use Rattle.catalog_opening.specs.Errors.{IfDamagedBy}
 use Rattle.catalog_opening.specs.declared.error.ReadErr.{ReadErr}
 use Rattle.catalog_opening.specs.declared.error.ReadErr.TheVariants as reading
+use Rattle.catalog_rows.specs.Kept.{Kept}
 use Rattle.catalog_core.specs.Framing.{StaysOpen}
 use Rattle.catalog_core.specs.Opened.{IsOpenFor, IsUnsettled, Opened}
 use Rattle.cursor_doc.specs.Cursor.{cursor_name}
@@ -25,15 +26,18 @@ use Rattle.id_pass.specs.declared.error.RoundOut.{RoundOut}
 use Rattle.id_pass.specs.declared.error.RoundOut.TheVariants.{Done, Idle}
 use Rattle.job_round.specs.Answers.{IsLostInCatalog, IsLostInHive}
 use Rattle.job_round.specs.Cursors.{IsCursor, IsNoCursor}
-use Rattle.job_round.specs.Ids.{by_id, key_of_id}
+use Rattle.job_round.specs.Ids.{by_id, key_of_id, keys_of}
 use Rattle.job_round.specs.Plans.{AreTold, AreWholePasses, IsOfPasses, IsPartPass, Pass, held_after, keys_in, pass_plan, passes_plan}
+use Rattle.job_round.specs.Reads.{Reads, ReadsRound, ReadsSome, ReadsTaking, RoundRead, StopsReading}
 use Rattle.job_round.specs.Rounds.{IsEndStop, IsTask, RunsRound, RunsTaking, cursor_put}
 use Rattle.job_round.specs.Stops.{JobHaltsAt, IfDamaged, IsElse, IsOfHive, catalog_stop_of}
 use Rattle.job_round.specs.declared.stop.Stop.{Stop}
 use Rattle.job_round.specs.declared.stop.Stop.TheVariants.{CatalogFault, HiveFault, CatalogDamaged, HiveDamaged, Memory}
 use Rattle.job_round.proofs.Halting.{halts_behind, halts_then}
 use Rattle.job_round.proofs.Passing.{fewer_part, fewer_passes}
-use Rattle.job_round.proofs.Targets.{end_told, keys_are, no_row, told_ids}
+use Rattle.job_round.proofs.ReadPasses.{fewer_some, taking_from}
+use Rattle.job_round.proofs.Reading.{reads_then}
+use Rattle.job_round.proofs.Targets.{end_told, ids_keys, keys_are, no_row, told_ids}
 
 abbrev pub rows_read : List Row → Result (List Row) ReadErr
 rows_read rows = Ok rows
@@ -146,6 +150,45 @@ module _ {B : Type 0} (keeps : Keeps) (makes : MakesDocs) (o mid : Opened B) (s 
         → ((k : ℕ) → RunsTaking (fold_of keeps makes mid.base) (AreTold k (by_id rows) (IsOpenFor mid t)) k row.number row.stamp (map key_of_id (by_id rows)) b e r) → RunsRound f Q a e r
     round_taken r e done ran = by_answer r e done (subst (λ (base : List ℕ). RunsTaking (fold_of keeps makes base) ids_of c row.number row.stamp (map key_of_id (by_id rows)) b e r) stays.base (ran c))
 
+    -- what was read meanwhile, of a catalog that was settled at the start
+    some_of : (keys : List (List ℕ)) (Halts : List Act → Type 0) → ReadsSome f ids_of c row.number o.kept.rows keys b.held Halts → ReadsSome f Q c row.number o.kept.rows keys a.held Halts
+    some_of keys Halts some = fewer_some f c row.number o.kept.rows ids_of Q more keys a.held Halts (subst (λ (h : Option Area). ReadsSome f ids_of c row.number o.kept.rows keys h Halts) same some)
+
+    read_by : (r : Result RoundOut Stop) (e u : Seen) → IfOk r (λ out. out ≡ Done row.number) → rows ≡ rows_above c o.kept.rows
+        → ReadsTaking f ids_of c row.number o.kept.rows row.stamp (map key_of_id (by_id rows)) b e s u r → ReadsRound f Q o.kept.rows a e s u r
+    read_by (Ok (Idle n)) e u done above read = absurd (let no : ⊥ = cc in no)
+    read_by (Ok (Done n)) e u done above (passes, keys, all, made, read) =
+        let number : row.number ≡ n = (let back : n ≡ row.number = cc in sym back) in
+        subst (λ (k : ℕ). RoundRead f Q o.kept.rows k a e s u) number (
+          c,
+          row.stamp,
+          passes,
+          task (keys_in passes) keys,
+          keys ∙ ids_keys rows (keys_of rows) ∙ ap keys_of above,
+          all_of passes all,
+          makes_then (Get cursor_name ∷ []) (passes_plan passes ++ cursor_put row.number row.stamp ∷ []) a b e got made,
+          read,
+        )
+    read_by (Err stop) e u done above some = inr (
+      c,
+      row.number,
+      row.stamp,
+      map key_of_id (by_id rows),
+      task (map key_of_id (by_id rows)) refl,
+      ids_keys rows (keys_of rows) ∙ ap keys_of above,
+      some_of (map key_of_id (by_id rows)) (λ plan. StopsReading plan stop s u) some,
+    )
+
+    pub round_read : (r : Result RoundOut Stop) (e u : Seen) → IfOk r (λ out. out ≡ Done row.number) → mid.kept ≡ o.kept → rows ≡ rows_above c mid.kept.rows → Makes [] s t
+        → ((k : ℕ) → rows ≡ rows_above k mid.kept.rows
+        → ReadsTaking (fold_of keeps makes mid.base) (AreTold k (by_id rows) (IsOpenFor mid t)) k row.number mid.kept.rows row.stamp (map key_of_id (by_id rows)) b e t u r)
+        → ReadsRound f Q o.kept.rows a e s u r
+    round_read r e u done kept above quiet ran =
+        read_by r e u done (above ∙ ap (λ (k : Kept). rows_above c k.rows) kept)
+        (taking_from f ids_of c row.number o.kept.rows row.stamp (map key_of_id (by_id rows)) b e s t u r quiet
+        (subst (λ (k : Kept). ReadsTaking f ids_of c row.number k.rows row.stamp (map key_of_id (by_id rows)) b e t u r) kept
+        (subst (λ (base : List ℕ). ReadsTaking (fold_of keeps makes base) ids_of c row.number mid.kept.rows row.stamp (map key_of_id (by_id rows)) b e t u r) stays.base (ran c above))))
+
     taken_if : (n : Opened B) (u : Seen) (held : Option Area) (stop : Stop) → IsOfPasses n u (record { calls = 0; faults = 0; held = held; asked = None; left = λ k m. ⊤ }) row.number stop
         → IfDamaged (IsLostInCatalog o n s u) (IsLostInHive o s held) stop
     taken_if n u held CatalogFault cause = tt
@@ -187,3 +230,15 @@ module _ {B : Type 0} (keeps : Keeps) (makes : MakesDocs) (o mid : Opened B) (s 
     end_lost n u (Err (CatalogDamaged name)) held cause = inr (λ m is. let why = cause m (sym held ∙ is) in let no : ⊥ = cc in absurd no)
     end_lost n u (Err (HiveDamaged name)) held cause = subst (λ (h : Option Area). IsLostInHive o s h name) (sym same) (at_cursor a.held name cause.0 cause.1 cursor)
     end_lost n u (Err Memory) held cause = tt
+
+-- what a round read where there was nothing to take up
+pub idle_read : (f : Fold) (Q : Catalog → Type 0) (kept : List Row) (c : ℕ) (a e s t u : Seen) (r : Result RoundOut Stop) → IfOk r (λ out. out ≡ Idle c) → Makes [] s t → Reads [] t u r
+    → ReadsRound f Q kept a e s u r
+idle_read f Q kept c a e s t u (Ok (Idle n)) idle quiet read = makes_then [] [] s t u quiet read
+idle_read f Q kept c a e s t u (Ok (Done n)) idle quiet read = absurd (let no : ⊥ = cc in no)
+idle_read f Q kept c a e s t u (Err stop) idle quiet read = inl (reads_then [] [] stop s t u quiet read)
+
+-- and where it stopped before
+pub early_read : (f : Fold) (Q : Catalog → Type 0) (kept : List Row) (a e s u : Seen) (stop : Stop) (r : Result RoundOut Stop) → r ≡ Err stop → StopsReading [] stop s u
+    → ReadsRound f Q kept a e s u r
+early_read f Q kept a e s u stop r told halts = subst (λ (x : Result RoundOut Stop). ReadsRound f Q kept a e s u x) (sym told) (inl halts)

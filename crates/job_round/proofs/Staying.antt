@@ -1,5 +1,5 @@
 -- What a catalog's call leaves, told as a stop.
-use Rattle.std.proofs.Common.{◌≡◌, ◌⊎◌, ℕ, List, Bool, true, Some, Ok, Err, IfErr, Result, ⊎_elim, refl, sym, ◌∙◌, ap, subst}
+use Rattle.std.proofs.Common.{◌≡◌, ◌⊎◌, ℕ, List, Bool, true, Some, Ok, Err, IfErr, Result, inr, ⊎_elim, refl, sym, ◌∙◌, ap, subst}
 use Rattle.std.specs.FinMap.{get}
 use Rattle.std.specs.Prelude.{IsErrOf}
 use Rattle.blob_store.specs.Area.{Area}
@@ -12,8 +12,8 @@ use Rattle.catalog_core.specs.Framing.{StaysOpen}
 use Rattle.catalog_core.specs.Opened.{IsUnsettled, Opened}
 use Rattle.catalog_core.proofs.Frames.{stays_as, stays_iff}
 use Rattle.catalog_items.specs.Reads.{IsAbsent}
-use Rattle.job_round.specs.Items.{IsStagedAbsent}
-use Rattle.job_round.specs.Stops.{IfDamaged, IsElse, IsOfHive, catalog_stop_of}
+use Rattle.job_round.specs.Items.{IsLostBlob, IsStagedAbsent}
+use Rattle.job_round.specs.Stops.{IfDamaged, IsElse, IsStopOfCatalog, IsOfHive, catalog_stop_of}
 use Rattle.job_round.specs.declared.stop.Stop.{Stop}
 use Rattle.job_round.specs.declared.stop.Stop.TheVariants.{CatalogFault, HiveFault, CatalogDamaged, HiveDamaged, Memory}
 use Rattle.job_round.proofs.Stays.{stays_then}
@@ -102,3 +102,25 @@ staged_absent o s t number place nuspec reading.Memory damaged settled same = tt
 
 pub hive_quiet : {A : Type 0} (P : List ℕ → Type 0) (stop : Stop) (r : Result A Stop) → r ≡ Err stop → IsOfHive P stop → IsErrOf r CatalogFault → ⊥
 hive_quiet P stop r told cause failed = let same : stop ≡ CatalogFault = cc in subst (IsOfHive P) same cause
+
+-- a blob of the catalog that is damaged, told of passes
+catalog_if : (P R : List ℕ → Type 0) (stop : Stop) → IsStopOfCatalog P stop → IfDamaged P R stop
+catalog_if P R CatalogFault cause = tt
+catalog_if P R HiveFault cause = absurd cause
+catalog_if P R (CatalogDamaged name) cause = cause
+catalog_if P R (HiveDamaged name) cause = absurd cause
+catalog_if P R Memory cause = tt
+
+pub items_damaged : {A : Type 0} (P R : List ℕ → Type 0) (stop : Stop) (r : Result A Stop) → r ≡ Err stop → IsStopOfCatalog P stop → IfErr r (IfDamaged P R)
+items_damaged {A} P R stop r told cause = subst (λ (x : Result A Stop). IfErr x (IfDamaged P R)) (sym told) (catalog_if P R stop cause)
+
+staged_if : {B : Type 0} (o : Opened B) (s : Seen) (R : List ℕ → Type 0) (stop : Stop) → IfDamaged (IsStagedAbsent s.held) (λ n. ⊥) stop → IfDamaged (IsLostBlob o s) R stop
+staged_if o s R CatalogFault cause = tt
+staged_if o s R HiveFault cause = tt
+staged_if o s R (CatalogDamaged name) cause = λ m is. inr (cause m is)
+staged_if o s R (HiveDamaged name) cause = absurd cause
+staged_if o s R Memory cause = tt
+
+pub plan_damaged : {A B : Type 0} (o : Opened B) (s : Seen) (R : List ℕ → Type 0) (r : Result A Stop) → IfErr r (IfDamaged (IsStagedAbsent s.held) (λ n. ⊥)) → IfErr r (IfDamaged (IsLostBlob o s) R)
+plan_damaged o s R (Ok x) cause = tt
+plan_damaged o s R (Err stop) cause = staged_if o s R stop cause

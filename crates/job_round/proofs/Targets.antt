@@ -15,6 +15,7 @@ use Rattle.catalog_rows.proofs.OfItems.{rows_placed}
 use Rattle.fold_core.specs.Items.{is_of}
 use Rattle.job_round.specs.Ids.{by_id, firsts, id_rows, is_row_of, key_of, key_of_id, keys_of}
 use Rattle.job_round.specs.Items.{items_after, is_behind, keys_after, placed_after, placed_key}
+use Rattle.job_round.specs.Reads.{HaveOwnRows}
 use Rattle.job_round.specs.declared.ids.IdRows.{IdRows}
 
 above_map : (c : ℕ) (xs : List Placed) → rows_above c (map row_of xs) ≡ map row_of (filter (is_behind c) xs)
@@ -42,7 +43,7 @@ keys_map : (xs : List Placed) → map key_of (map row_of xs) ≡ map placed_key 
 keys_map [] = refl
 keys_map (x ∷ xs) = ap (λ (l : List (List ℕ)). placed_key x ∷ l) (keys_map xs)
 
-ids_keys : (rows : List Row) (keys : List (List ℕ)) → map key_of_id (map (id_rows rows) keys) ≡ keys
+pub ids_keys : (rows : List Row) (keys : List (List ℕ)) → map key_of_id (map (id_rows rows) keys) ≡ keys
 ids_keys rows [] = refl
 ids_keys rows (key ∷ keys) = ap (λ (l : List (List ℕ)). key ∷ l) (ids_keys rows keys)
 
@@ -59,6 +60,14 @@ module _ (c : ℕ) (cs : Catalog) (rows : List Row) (same : rows ≡ rows_above 
 
   pub told_ids : AllByRecursion (λ (id : IdRows). id.rows ≡ map row_of (items_after c cs id.key)) (by_id rows)
   told_ids = told_each (keys_of rows)
+
+-- each id has its own rows behind a commit
+own_each : (c : ℕ) (kept rows : List Row) → rows ≡ rows_above c kept → (keys : List (List ℕ)) → HaveOwnRows c kept (map (id_rows rows) keys)
+own_each c kept rows same [] = tt
+own_each c kept rows same (key ∷ keys) = (ap (filter (is_row_of key)) same, own_each c kept rows same keys)
+
+pub own_ids : (c : ℕ) (kept rows : List Row) → rows ≡ rows_above c kept → HaveOwnRows c kept (by_id rows)
+own_ids c kept rows same = own_each c kept rows same (keys_of rows)
 
 filter_joined : (p : Placed → Bool) (xs ys : List Placed) → filter p (xs ++ ys) ≡ filter p xs ++ filter p ys
 filter_joined p [] ys = refl

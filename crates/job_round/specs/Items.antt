@@ -1,5 +1,5 @@
 -- The items that a round takes up.
-use Rattle.std.specs.Prelude.{◌≡◌, ◌⊎◌, ℕ, List, filter, map, nat_lt, Bool, Contains, Option, Some, None, IfSome}
+use Rattle.std.specs.Prelude.{◌≡◌, ◌⊎◌, ℕ, List, filter, map, nat_lt, Bool, Contains, Option, Some, None}
 use Rattle.std.specs.FinMap.{get}
 use Rattle.blob_store.specs.Area.{Area}
 use Rattle.blob_store.specs.Seen.{Seen}
@@ -37,9 +37,10 @@ items_after c cs key = filter (λ (x : Placed). is_of key x.what) (placed_after 
 abbrev pub items_behind : ℕ → ℕ → Catalog → List ℕ → List Placed
 items_behind c at cs key = filter (is_behind at) (items_after c cs key)
 
--- the leaf at a place has this name, and where a row that is kept stands there the area holds no leaf of it
+-- the leaf at a place has this name, a row that is kept stands there, and the area holds no leaf of it
 abbrev pub IsNoLeafAmong : Area → List ℕ → List Row → List ℕ → Type 0
-IsNoLeafAmong m base rows name = (number place : ℕ) × (name ≡ leaf_name number place) × IfSome (row_with number place rows) (HasNoLeaf m base)
+IsNoLeafAmong m base rows name = (number place : ℕ) × (name ≡ leaf_name number place)
+    × ((row : Row) × (row_with number place rows ≡ Some row) × HasNoLeaf m base row)
 
 -- what some publish brought has this name, and the area doesn't hold it
 abbrev pub IsNoStaged : Area → List ℕ → Type 0

@@ -4,6 +4,7 @@ pub mod Ids
 pub mod Items
 pub mod Made
 pub mod Plans
+pub mod Reads
 pub mod Rounds
 pub mod States
 pub mod Stops

@@ -7,6 +7,7 @@ ghost use Rattle.catalog_core.specs.Opened.{IsOpenFor};
 ghost use Rattle.id_pass.specs.Placing.{all_as_placed};
 ghost use Rattle.catalog_rows.specs.Last.{row_of};
 ghost use Rattle.job_round.specs.Items.{AreOf, IsLostBlob, is_behind};
+ghost use Rattle.job_round.specs.Reads.{AreKept, Reads, leaf_of, leaves_behind};
 ghost use Rattle.job_round.specs.Stops.{IsElse, IsStopOfCatalog};
 
 use crate::stop::{Stop, catalog_stop};
@@ -32,7 +33,10 @@ fn item_of<B: Blobs>(alloc: Global, catalog: &mut Catalog<B>, row: &Row) -> Resu
     ensures item { (cs : List Stored) (x : CatalogItem) → IsOpenFor catalog.old (B.seen catalog.old.area) cs → Contains (all_placed cs) x → row.now ≡ row_of x
         → IfOk result (λ it. it ≡ x.what) }
     ensures other { IfErr result IsElse }
-    ensures cause { catalog.old.settled ≡ true → IfErr result (IsStopOfCatalog (IsLostBlob catalog.new (B.seen catalog.new.area))) }
+    ensures reads { catalog.old.settled ≡ true → Contains catalog.old.kept.rows row.now
+        → Reads (leaf_of row.now) (B.seen catalog.old.area) (B.seen catalog.new.area) result }
+    ensures cause { catalog.old.settled ≡ true → Contains catalog.old.kept.rows row.now
+        → IfErr result (IsStopOfCatalog (IsLostBlob catalog.new (B.seen catalog.new.area))) }
 {
     if row.gone {
         let item = gone_item(alloc, row)?;
@@ -55,7 +59,10 @@ pub(crate) fn items_behind<B: Blobs>(
     ensures items { (cs : List Stored) (xs : List CatalogItem) → IsOpenFor catalog.old (B.seen catalog.old.area) cs → AreOf cs xs → rows.now ≡ map row_of xs
         → IfOk result (λ items. all_as_placed items ≡ filter (is_behind at) xs) }
     ensures other { IfErr result IsElse }
-    ensures cause { catalog.old.settled ≡ true → IfErr result (IsStopOfCatalog (IsLostBlob catalog.new (B.seen catalog.new.area))) }
+    ensures reads { catalog.old.settled ≡ true → AreKept catalog.old.kept.rows rows.now
+        → Reads (leaves_behind at rows.now) (B.seen catalog.old.area) (B.seen catalog.new.area) result }
+    ensures cause { catalog.old.settled ≡ true → AreKept catalog.old.kept.rows rows.now
+        → IfErr result (IsStopOfCatalog (IsLostBlob catalog.new (B.seen catalog.new.area))) }
 {
     let mut items = Many::new(alloc);
     for row in rows {

@@ -1,5 +1,5 @@
 // The job of a hive, and the number of its cursor.
-ghost use Rattle.std.specs.Prelude.{◌≡◌, ◌<◌, ◌∷◌, [], ℕ, List, length, codes, IfErr, IfOk, IfSome, IsErrOf};
+ghost use Rattle.std.specs.Prelude.{◌≡◌, ◌<◌, ◌∷◌, [], ℕ, List, length, codes, true, IfErr, IfOk, IfSome, IsErrOf};
 ghost use Rattle.std.specs.FinMap.{get};
 ghost use Rattle.feed_base.specs.Counts.{CountsFault};
 ghost use Rattle.blob_store.specs.Events.{Get};
@@ -10,6 +10,7 @@ ghost use Rattle.cursor_doc.specs.Cursor.{cursor_name};
 ghost use Rattle.fold_core.specs.Folds.{fold_of};
 ghost use Rattle.job_round.specs.Answers.{IfDamagedText, IfDone, IfIdle, IsDamagedBlob, IsNoNumber, IsStopTold, TellsDamaged, hive_word, in_area, told_number};
 ghost use Rattle.job_round.specs.Cursors.{IsCursor};
+ghost use Rattle.job_round.specs.Reads.{RoundReads};
 ghost use Rattle.job_round.specs.Rounds.{EndsTo, Rounds};
 
 use crate::cursor::cursor_in;
@@ -84,6 +85,11 @@ pub fn run_round<H: Hive, B: Blobs>(
 ) -> Result<RoundOut, RoundErr>
     // The calls on the hive's store: the cursor is got, each id's pass is made, and the cursor is put; up to where it stopped.
     ensures runs { Rounds (fold_of H.keeps H.makes catalog.old.base) (IsOpenFor catalog.old (B.seen catalog.old.area)) (B.seen area.old) (B.seen area.new) result }
+
+    // The calls on the catalog's store, where it is settled: the leaf of each details item behind the id's state, pass by pass, and then what
+    // publishes brought, for each call that puts it; each once, up to where it stopped.
+    ensures reads { catalog.old.settled ≡ true → RoundReads (fold_of H.keeps H.makes catalog.old.base) (IsOpenFor catalog.old (B.seen catalog.old.area))
+        catalog.old.kept.rows (B.seen area.old) (B.seen area.new) (B.seen catalog.old.area) (B.seen catalog.new.area) result }
 
     ensures target { (cs : List Stored) → IsOpenFor catalog.old (B.seen catalog.old.area) cs → IfOk result (λ out. told_number out ≡ length cs) }
     ensures idle { IfOk result (λ out. IfIdle out (λ n. ((B.seen area.new).held ≡ (B.seen area.old).held)

@@ -1,8 +1,9 @@
 // A round of a hive.
-ghost use Rattle.std.specs.Prelude.{◌≡◌, ◌<◌, ℕ, List, map, length, true, IfErr, IfOk, IfSome, IsErrOf};
+ghost use Rattle.std.specs.Prelude.{◌≡◌, ◌<◌, ℕ, List, [], map, length, true, IfErr, IfOk, IfSome, IsErrOf};
 ghost use Rattle.std.specs.FinMap.{get};
 ghost use Rattle.feed_base.specs.Counts.{CountsFault};
 ghost use Rattle.pkg_meta.specs.declared.commit.Stored.{Stored};
+ghost use Rattle.catalog_items.specs.ByRows.{rows_above};
 ghost use Rattle.catalog_core.specs.Framing.{StaysOpen};
 ghost use Rattle.catalog_core.specs.Opened.{IsOpenFor};
 ghost use Rattle.cursor_doc.specs.Cursor.{cursor_name};
@@ -12,6 +13,7 @@ ghost use Rattle.job_round.specs.Answers.{IfDamagedText, IfDone, IfIdle, IsDamag
 ghost use Rattle.job_round.specs.Cursors.{IsCursor};
 ghost use Rattle.job_round.specs.Ids.{by_id, key_of_id};
 ghost use Rattle.job_round.specs.Plans.{AreTold, IsOfPasses};
+ghost use Rattle.job_round.specs.Reads.{Reads, ReadsRound, ReadsTaking};
 ghost use Rattle.job_round.specs.Rounds.{IsEndStop, Rounds, RunsRound, RunsTaking};
 ghost use Rattle.job_round.specs.Stops.{IfDamaged};
 
@@ -28,10 +30,12 @@ use pkg_meta::Many;
 use std::alloc::Global;
 
 // The answer where no row stands behind the cursor.
+#[tactic(auto, using(crate::proofs::ReadTelling::damage_reads))]
 fn at_end<B: Blobs>(alloc: Global, catalog: &mut Catalog<B>, cursor: u32) -> Result<RoundOut, Stop>
     ensures stays { StaysOpen catalog.old catalog.new (B.seen catalog.old.area) (B.seen catalog.new.area) (IsErrOf result Stop.CatalogFault) }
     ensures idle { IfOk result (λ out. out ≡ Idle cursor) }
     ensures last { (cs : List Stored) → IsOpenFor catalog.old (B.seen catalog.old.area) cs → IfOk result (λ out. cursor ≡ length cs) }
+    ensures reads { catalog.old.settled ≡ true → Reads [] (B.seen catalog.old.area) (B.seen catalog.new.area) result }
     ensures cause { IfErr result (IsEndStop catalog.old (B.seen catalog.old.area) cursor) }
 {
     let count = match catalog.count(alloc) {
@@ -57,7 +61,12 @@ fn take_up<H: Hive, B: Blobs>(
     ensures done { IfOk result (λ out. out ≡ Done target.now.number) }
     ensures runs { (c : ℕ) → RunsTaking (fold_of H.keeps H.makes catalog.old.base) (AreTold c (by_id rows) (IsOpenFor catalog.old (B.seen catalog.old.area)))
         c target.now.number target.now.stamp (map key_of_id (by_id rows)) (B.seen area.old) (B.seen area.new) result }
-    ensures cause { catalog.old.settled ≡ true → IfErr result (IsOfPasses catalog.new (B.seen catalog.new.area) (B.seen area.new) target.now.number) }
+    ensures reads { (c : ℕ) → catalog.old.settled ≡ true → rows ≡ rows_above c catalog.old.kept.rows
+        → ReadsTaking (fold_of H.keeps H.makes catalog.old.base) (AreTold c (by_id rows) (IsOpenFor catalog.old (B.seen catalog.old.area)))
+        c target.now.number catalog.old.kept.rows target.now.stamp (map key_of_id (by_id rows)) (B.seen area.old) (B.seen area.new)
+        (B.seen catalog.old.area) (B.seen catalog.new.area) result }
+    ensures cause { (c : ℕ) → catalog.old.settled ≡ true → rows ≡ rows_above c catalog.old.kept.rows
+        → IfErr result (IsOfPasses catalog.new (B.seen catalog.new.area) (B.seen area.new) target.now.number) }
 {
     let ids = Ids::of(alloc, rows)?;
     passes::<H, B>(alloc, catalog, area, &ids, target.number)?;
@@ -73,6 +82,8 @@ pub(crate) fn round<H: Hive, B: Blobs>(
 ) -> Result<RoundOut, Stop>
     ensures stays { StaysOpen catalog.old catalog.new (B.seen catalog.old.area) (B.seen catalog.new.area) (IsErrOf result Stop.CatalogFault) }
     ensures runs { RunsRound (fold_of H.keeps H.makes catalog.old.base) (IsOpenFor catalog.old (B.seen catalog.old.area)) (B.seen area.old) (B.seen area.new) result }
+    ensures reads { catalog.old.settled ≡ true → ReadsRound (fold_of H.keeps H.makes catalog.old.base) (IsOpenFor catalog.old (B.seen catalog.old.area))
+        catalog.old.kept.rows (B.seen area.old) (B.seen area.new) (B.seen catalog.old.area) (B.seen catalog.new.area) result }
     ensures cause { IfErr result (IfDamaged (IsLostInCatalog catalog.old catalog.new (B.seen catalog.old.area) (B.seen catalog.new.area))
         (IsLostInHive catalog.old (B.seen catalog.old.area) (B.seen area.new).held)) }
 {

@@ -1,6 +1,8 @@
-use Rattle.std.proofs.Common.{[], subst, sym, refl, ◌∙◌}
+use Rattle.std.proofs.Common.{[], ◌∷◌, subst, sym, refl, ◌∙◌}
 use Rattle.blob_store.specs.declared.call.Call.TheVariants as store
+use Rattle.blob_store.specs.Events.{Get}
 use Rattle.catalog_core.specs.Opened.{IsOpenFor}
+use Rattle.catalog_doc.specs.Names.{staged_name}
 use Rattle.fold_core.specs.declared.doc.Body.TheVariants.{Staged as FromPublish}
 use Rattle.id_pass.specs.declared.call.Call.TheVariants.{Put}
 use Rattle.job_round.specs.Items.{IsStagedAbsent}
@@ -8,6 +10,7 @@ use Rattle.job_round.specs.Stops.{JobHaltsAt, IfDamaged}
 use Rattle.job_round.specs.declared.stop.Stop.{Stop}
 use Rattle.job_round.proofs.Halting.{halts_before}
 use Rattle.job_round.proofs.Making.{calls_one, read_body}
+use Rattle.job_round.proofs.Reading.{reads_hive, staged_halts}
 use Rattle.job_round.proofs.Staying.{else_of_read, hive_all, no_catalog_fault, staged_absent, stays_read, stays_told}
 use Rattle.job_round.proofs.calls.put_staged.Goals as goal
 
@@ -38,3 +41,12 @@ pub returns-in-Err-clause-cause : goal.returns-in-Err-clause-cause
 returns-in-Err-clause-cause g c = λ settled. subst (IfDamaged (IsStagedAbsent (g.B.Blobs.seen c.staged.new.self.area).held) (λ n. ⊥)) (sym c.catalog_stop.ensures)
     (staged_absent c.args.catalog.now (g.B.Blobs.seen c.args.catalog.now.area) (g.B.Blobs.seen c.staged.new.self.area) c.args.number c.args.place c.args.nuspec c.in-Err.error c.in-Err.ensures.damaged settled
     (c.in-Err.ensures.stays.settled settled).1)
+
+pub returns-in-Ok-clause-reads : goal.returns-in-Ok-clause-reads
+returns-in-Ok-clause-reads g c = λ settled.
+    reads_hive (Get (staged_name c.args.number c.args.place c.args.nuspec) ∷ []) (g.B.Blobs.seen c.args.catalog.now.area) (g.B.Blobs.seen c.staged.new.self.area) (c.in-Ok.ensures.runs settled) c.put.result c.put.ensures.cause
+
+pub returns-in-Err-clause-reads : goal.returns-in-Err-clause-reads
+returns-in-Err-clause-reads g c = λ settled.
+    staged_halts c.args.catalog.now (g.B.Blobs.seen c.args.catalog.now.area) (g.B.Blobs.seen c.staged.new.self.area) c.args.number c.args.place c.args.nuspec c.in-Err.error c.catalog_stop.result c.catalog_stop.ensures
+    settled (c.in-Err.ensures.stays.settled settled).1 (c.in-Err.ensures.runs settled) c.in-Err.ensures.damaged
