@@ -1,5 +1,5 @@
 -- The calls of an opening and of a settling.
-use Rattle.std.proofs.Common.{◌≡◌, ◌⊎◌, ⊎_elim, ℕ, List, [], ◌∷◌, ◌++◌, ◌+◌, length, Some, Ok, Err, Result, refl, sym, ◌∙◌, ap, subst}
+use Rattle.std.proofs.Common.{◌≡◌, ⊎_elim, ℕ, List, [], ◌∷◌, ◌++◌, ◌+◌, length, Some, Ok, Err, Result, refl, sym, ◌∙◌, ap, subst}
 use Rattle.blob_store.specs.Area.{Area}
 use Rattle.blob_store.specs.Events.{Act, Get, Change}
 use Rattle.blob_store.specs.Seen.{Seen}

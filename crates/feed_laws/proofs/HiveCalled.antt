@@ -1,5 +1,5 @@
 -- Calls on a hive's area that meet their conditions: one list behind another, a front of a list, and those of a pass.
-use Rattle.std.proofs.Common.{◌≡◌, ◌<◌, ◌≤◌, ◌⊎◌, inl, inr, ⊎_elim, ℕ, List, [], ◌∷◌, ◌++◌, length, map, codes, Option, None, Some, refl, sym, ◌∙◌, subst, arith}
+use Rattle.std.proofs.Common.{◌≡◌, ◌<◌, ◌≤◌, inl, inr, ⊎_elim, ℕ, List, [], ◌∷◌, ◌++◌, length, map, codes, Option, None, Some, refl, sym, ◌∙◌, subst, arith}
 use Rattle.std.specs.Prelude.{IsSome, take}
 use Rattle.std.specs.FinMap.{get}
 use Rattle.blob_store.specs.Area.{Area, changed}

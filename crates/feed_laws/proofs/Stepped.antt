@@ -1,5 +1,5 @@
 -- Calls on the catalog's area that meet their conditions are steps of the feed.
-use Rattle.std.proofs.Common.{◌≡◌, ◌⊎◌, inl, inr, ⊎_elim, ℕ, List, [], ◌∷◌, ◌++◌, true, if◌then◌else◌, refl, sym, ap, subst}
+use Rattle.std.proofs.Common.{◌≡◌, inl, inr, ⊎_elim, ℕ, List, [], ◌∷◌, ◌++◌, true, if◌then◌else◌, refl, sym, ap, subst}
 use Rattle.blob_store.specs.Events.{Act, Get, Change, Event, Fate, Done, FailedOld, FailedNew, NoMemory, after_event, after_events}
 use Rattle.blob_store.specs.declared.call.Call.TheVariants.{Put, Remove}
 use Rattle.pkg_meta.specs.Catalog.{Catalog}
