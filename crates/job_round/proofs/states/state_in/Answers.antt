@@ -6,5 +6,5 @@ pub returns-in-Ok : goal.returns-in-Ok
 returns-in-Ok c = (
   ap Some c.in-Ok.ensures.ok,
   λ other value same. let own : c.args.bytes.now ≡ state_text other = cc in sym (c.in-Ok.ensures.exact other value own),
-  sym c.fits.ensures ∙ c.if-fits.true,
+  sym c.fits_id.ensures ∙ c.if-fits_id.true,
 )
