@@ -137,6 +137,10 @@ cp "$work/nothing" "$work/input"
 refuses 'a publish of nothing' 3 'refused empty' publish
 cp "$work/cut" "$work/input"
 refuses 'a publish cut by one byte' 3 'refused body 0' publish
+dd if=/dev/zero of="$work/input" bs=1048576 count=64 2>/dev/null
+refuses 'a publish of 67,108,864 bytes that are no records' 3 'refused body 0' publish
+dd if=/dev/zero of="$work/input" bs=13421773 count=5 2>/dev/null
+refuses 'a publish of one byte more' 7 'toolong' publish
 cp "$work/nothing" "$work/input"
 
 printf '%s' 'abc' >"$work/want"

@@ -3,10 +3,17 @@
 # same puts with all their syncs. The two take turns, publish by publish, so that the disk is the same for both. Then the
 # three hives of catalogs of 128, 256 and 512 packages, each hive by one process, beside the bare puts of the same
 # documents. Then commits of 64 packages beside the same packages one by one, and openings of catalogs of 2,000 to 200,000
+<<<<<<< HEAD
 # items beside a program of Python that reads and parses the same pages with its own JSON reader. Last the requests of a link
 # in memory that are served in a second, beside the same loop in Rust over stock httparse, with the allocations of each. It
 # takes some minutes, and prints the times and their ratios. It is skipped where python3, a C compiler or the program is
 # missing, and the last part also where `host_speed`, cargo or the source of httparse is.
+=======
+# items beside a program of Python that reads and parses the same pages with its own JSON reader. Then jobs of catalogs of
+# 2,000 and 10,000 versions, the first of each beside the bare puts that it makes, and jobs behind one publish each: of those
+# it is checked that they read no leaf but the new one and no state of another id, and put nothing of another id. It takes
+# some minutes, and prints the times and their ratios. It is skipped where python3, a C compiler or the program is missing.
+>>>>>>> ab437c38f8c35b778ef4a3c4a0663c9f49983fb2
 #
 # Use: sh checks/speed.sh [PROGRAM [SERVING]]
 # PROGRAM is crates/feed/out/feed unless it is given, and SERVING crates/host_speed/out/host_speed. The source of httparse is
@@ -40,6 +47,8 @@ store, plain = work + "/store", work + "/plain/catalog"
 MOST, LIMIT = 100, 60.0
 SIZES, HIVES = [128, 256, 512], ["plain", "semver2", "content"]
 ITEMS, PAGE = [2_000, 20_000, 200_000], 512
+IDS, VERSIONS, TURNS = [100, 500], 20, 3
+HASH = "3a81oZNherrMQXNJriBBMRLm+k6JqX6iCp7u5ktV05ohkpkqJ0/BqDa6PCOj/uu9RU1EI2Q86A4qmslPpUyknw=="
 PARSE = "import json, sys; [json.load(open(f'{sys.argv[1]}/page{k}.json')) for k in range(int(sys.argv[2]))]"
 
 def publish(number):
@@ -134,7 +143,14 @@ def one_id():
 def stamp(number):
     return f"2024-01-01T{number // 3600:02d}:{number // 60 % 60:02d}:{number % 60:02d}.0000000Z"
 
-def catalog_of(area, items):
+def head_of(number):
+    return {"commitId": f"00000000-0000-0000-0000-{number:012x}", "commitTimeStamp": stamp(number)}
+
+def dump(name, value):
+    with open(name, "w", encoding="ascii") as file:
+        json.dump(value, file, separators=(",", ":"))
+
+def catalog_of(area, items, named=lambda at: (f"Some.Package{at}", "1.0.0")):
     """The index and the pages of a catalog of so many publishes, 64 a commit; no opening reads leaves."""
     base, heads = "http://f.test/v3/catalog/", []
     os.makedirs(area)
@@ -142,16 +158,30 @@ def catalog_of(area, items):
         rows = []
         for at in range(first, min(first + PAGE, items)):
             number, place = at // 64 + 1, at % 64
-            head = {"commitId": f"00000000-0000-0000-0000-{number:012x}", "commitTimeStamp": stamp(number)}
+            name, version = named(at)
+            head = head_of(number)
             rows.append({"@id": f"{base}data/{number}/{place}.json", "@type": "nuget:PackageDetails", **head,
-                         "nuget:id": f"Some.Package{at}", "nuget:version": "1.0.0"})
+                         "nuget:id": name, "nuget:version": version})
         name = f"page{first // PAGE}.json"
         heads.append({"@id": base + name, **head, "count": len(rows)})
-        with open(f"{area}/{name}", "w", encoding="ascii") as file:
-            json.dump({**heads[-1], "items": rows, "parent": base + "index.json"}, file, separators=(",", ":"))
-    with open(f"{area}/index.json", "w", encoding="ascii") as file:
-        json.dump({"@id": base + "index.json", **head, "count": len(heads), "items": heads}, file, separators=(",", ":"))
+        dump(f"{area}/{name}", {**heads[-1], "items": rows, "parent": base + "index.json"})
+    dump(f"{area}/index.json", {"@id": base + "index.json", **head, "count": len(heads), "items": heads})
     return len(heads)
+
+def leaves_of(area, items, named):
+    """The leaves of such a catalog, as the program writes them."""
+    for at in range(items):
+        number, place = at // 64 + 1, at % 64
+        name, version = named(at)
+        head = head_of(number)
+        moment = head["commitTimeStamp"]
+        os.makedirs(f"{area}/data/{number}", exist_ok=True)
+        dump(f"{area}/data/{number}/{place}.json", {
+            "@id": f"http://f.test/v3/catalog/data/{number}/{place}.json", "@type": ["PackageDetails"],
+            "catalog:commitId": head["commitId"], "catalog:commitTimeStamp": moment, "created": moment, "id": name,
+            "isPrerelease": False, "listed": True, "origin": f"{number}/{place}", "packageHash": HASH,
+            "packageHashAlgorithm": "SHA512", "packageSize": 3, "published": moment, "verbatimVersion": version,
+            "version": version})
 
 def best_of(times, words):
     spent = []
@@ -174,6 +204,7 @@ def openings():
         print(f"opening {items} items, {length / (1 << 20):.1f} MiB of pages: {ours * 1000:.0f} ms, {ours / items * 1e6:.2f} us an item, "
               f"{memory / 1024:.1f} MiB of memory at the most; Python's reader {theirs * 1000:.0f} ms, ratio {ours / theirs:.2f}")
 
+<<<<<<< HEAD
 def beside_httparse():
     """The program of the same loop in Rust, if it can be made."""
     sources = [os.environ["HTTPARSE"]] if "HTTPARSE" in os.environ else glob.glob("/usr/share/cargo/registry/httparse-*")
@@ -215,6 +246,68 @@ def requests():
     ours, beside = min(times[serving]), min(times[theirs])
     print(f"{count} requests of a link, each answered with 22 bytes: {count / ours:.0f} a second with {allocations(serving):.0f} "
           f"allocations each, by stock httparse in Rust {count / beside:.0f} with {allocations(theirs):.0f}, ratio {beside / ours:.2f}")
+=======
+def round_puts(area):
+    """The puts of a first job, in order: of each id its state, its documents and its state again; last the cursor."""
+    names = []
+    for state in sorted(os.listdir(f"{area}/s")):
+        own = f"d/{state[:-5]}"
+        names += [f"s/{state}", *(f"{own}/{name}" for name in documents(f"{area}/{own}")), f"s/{state}"]
+    return names + ["cursor.json"]
+
+def first_round(folder, items):
+    ours = told([folder, "job", "plain"])
+    names = round_puts(folder + "/plain")
+    child = bare_puts(f"{folder}.puts")
+    theirs = make_puts(child, folder + "/plain", names)
+    child.stdin.close()
+    child.wait()
+    print(f"a job over {items} new items: {len(names)} puts, {ours / len(names) * 1000:.2f} ms each, "
+          f"bare puts {theirs / len(names) * 1000:.2f} ms, ratio {ours / theirs:.2f}")
+
+def files(area):
+    """Each file's number, which a put changes, by name."""
+    return {name: os.stat(f"{area}/{name}").st_ino for name in documents(area)}
+
+def damage_others(folder, key):
+    """Removes all leaves, and spoils the states of all ids but one: a job that reads one of them is told `damaged`."""
+    shutil.rmtree(folder + "/catalog/data")
+    for state in os.listdir(folder + "/plain/s"):
+        if state != key + ".json":
+            with open(f"{folder}/plain/s/{state}", "w", encoding="ascii") as file:
+                file.write("{}")
+
+def next_rounds(folder, items):
+    rounds, openings, key = [], [], "some.package0"
+    damage_others(folder, key)
+    for turn in range(TURNS):
+        told([folder, "publish"], record("Some.Package0", f"2.{turn}.0"))
+        openings.append(told([folder, "cursor", "plain"]))
+        before = files(folder + "/plain")
+        rounds.append(told([folder, "job", "plain"]))
+        after = files(folder + "/plain")
+        changed = sorted(name for name in after if before.get(name) != after[name])
+        others = [name for name in changed if name not in ["cursor.json", f"s/{key}.json"] and not name.startswith(f"d/{key}/")]
+        if others or before.keys() - after.keys():
+            sys.exit(f"checks/speed.sh: a job of one id put or removed {others or before.keys() - after.keys()}")
+    ours, opening = min(rounds), min(openings)
+    print(f"a job behind one publish into {items} versions: {len(changed)} documents, {ours * 1000:.1f} ms, "
+          f"of which {opening * 1000:.1f} ms are the opening's")
+    return ours - opening
+
+def rounds():
+    """First jobs, and jobs of one id, of catalogs of 20 versions of each of so many ids."""
+    beside = []
+    for ids in IDS:
+        folder, items = f"{work}/rounds{ids}", ids * VERSIONS
+        named = lambda at: (f"Some.Package{at % ids}", f"1.{at // ids}.0")
+        catalog_of(folder + "/catalog", items, named)
+        leaves_of(folder + "/catalog", items, named)
+        first_round(folder, items)
+        beside.append(next_rounds(folder, items))
+    print(f"a job of one id without the opening: {beside[0] * 1000:.1f} ms, and {beside[1] * 1000:.1f} ms of {IDS[1] // IDS[0]} times "
+          f"as many versions")
+>>>>>>> ab437c38f8c35b778ef4a3c4a0663c9f49983fb2
 
 if subprocess.run([feed, store, "init", "http://f.test/"], stdout=subprocess.DEVNULL).returncode != 0:
     sys.exit("checks/speed.sh: init failed")
@@ -235,5 +328,9 @@ for size in SIZES:
 one_id()
 together()
 openings()
+<<<<<<< HEAD
 requests()
+=======
+rounds()
+>>>>>>> ab437c38f8c35b778ef4a3c4a0663c9f49983fb2
 EOF

@@ -86,11 +86,47 @@ fn another_base_address_is_told(rt: HostRuntime) -> Result<(), Fail> {
     Ok(())
 }
 
+// What stands as the index and the first page, and what an opening for another base address tells: a damaged index is told
+// before the address, and the address before the pages.
+const OF_ANOTHER: [([&str; 2], &str); 4] = [
+    (["", PAGE], "the area holds no catalog"),
+    (["{}", PAGE], "index.json is damaged"),
+    (
+        [INDEX, ""],
+        "the catalog's base address is http://f.test/, and not http://g.test/",
+    ),
+    (
+        [INDEX, "{}"],
+        "the catalog's base address is http://f.test/, and not http://g.test/",
+    ),
+];
+
+#[test]
+fn another_base_address_is_told_behind_the_index(rt: HostRuntime) -> Result<(), Fail> {
+    let alloc = rt.alloc();
+    for (texts, line) in &OF_ANOTHER {
+        let mut area = store(alloc, texts)?;
+        let known = read_catalog(alloc, &mut area, Some("http://g.test/"));
+        assert_eq!(rt; known_line(alloc, &known)?.as_str(), *line);
+    }
+    Ok(())
+}
+
 #[test]
 fn a_stopped_commit_is_settled(rt: HostRuntime) -> Result<(), Fail> {
     let mut area = store(rt.alloc(), &[INDEX_OF_NONE, PAGE])?;
     let more = settle(rt.alloc(), &mut area, "http://f.test/", &[]);
     assert!(rt; more.is_ok_and(|rows| rows.len() == 1));
     assert!(rt; holds(rt.alloc(), &mut area, "index.json", INDEX));
+    Ok(())
+}
+
+#[test]
+fn an_index_without_its_last_byte_is_damaged(rt: HostRuntime) -> Result<(), Fail> {
+    let cut = INDEX.strip_suffix('}').ok_or("no end")?;
+    let mut area = store(rt.alloc(), &[cut, PAGE])?;
+    let known = read_catalog(rt.alloc(), &mut area, None);
+    let line = known_line(rt.alloc(), &known)?;
+    assert_eq!(rt; line.as_str(), "index.json is damaged");
     Ok(())
 }

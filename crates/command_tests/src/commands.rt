@@ -243,8 +243,12 @@ fn commands_follow_each_other(rt: HostRuntime) -> Result<(), Fail> {
 const UNLISTED: &str =
     "{\"@id\":\"http://f.test/v3/catalog/data/2/0.json\",\"@type\":[\"PackageDetails\"],\"catalog:commitId\":\"00000000-0000-0000-0000-000000000002\",\"catalog:commitTimeStamp\":\"2024-01-01T00:00:00.0000001Z\",\"created\":\"2024-01-01T00:00:00.0000000Z\",\"id\":\"Foo\",\"isPrerelease\":false,\"listed\":false,\"origin\":\"1/0\",\"packageHash\":\"3a81oZNherrMQXNJriBBMRLm+k6JqX6iCp7u5ktV05ohkpkqJ0/BqDa6PCOj/uu9RU1EI2Q86A4qmslPpUyknw==\",\"packageHashAlgorithm\":\"SHA512\",\"packageSize\":3,\"published\":\"1900-01-01T00:00:00.0000000Z\",\"verbatimVersion\":\"1.0.0\",\"version\":\"1.0.0\"}";
 
+// The same listed again.
+const RELISTED: &str =
+    "{\"@id\":\"http://f.test/v3/catalog/data/3/0.json\",\"@type\":[\"PackageDetails\"],\"catalog:commitId\":\"00000000-0000-0000-0000-000000000003\",\"catalog:commitTimeStamp\":\"2024-01-01T00:00:00.0000002Z\",\"created\":\"2024-01-01T00:00:00.0000000Z\",\"id\":\"Foo\",\"isPrerelease\":false,\"listed\":true,\"origin\":\"1/0\",\"packageHash\":\"3a81oZNherrMQXNJriBBMRLm+k6JqX6iCp7u5ktV05ohkpkqJ0/BqDa6PCOj/uu9RU1EI2Q86A4qmslPpUyknw==\",\"packageHashAlgorithm\":\"SHA512\",\"packageSize\":3,\"published\":\"2024-01-01T00:00:00.0000000Z\",\"verbatimVersion\":\"1.0.0\",\"version\":\"1.0.0\"}";
+
 // The commands that name versions, from empty stores on.
-const LISTINGS: [Exchange<'_>; 16] = [
+const LISTINGS: [Exchange<'_>; 17] = [
     (&["init", "http://f.test/"], "", 0, "initialised\n"),
     (&["publish"], FOO, 0, DONE),
     (&["list", "Foo", "1.0.0"], "", 3, "refused already 0 1\n"),
@@ -264,6 +268,7 @@ const LISTINGS: [Exchange<'_>; 16] = [
         0,
         "committed 3 2024-01-01T00:00:00.0000002Z\n",
     ),
+    (&["get", "/v3/catalog/data/3/0.json"], "", 0, RELISTED),
     (
         &["publish"],
         BAR,

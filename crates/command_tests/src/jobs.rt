@@ -74,6 +74,55 @@ const LATER: [Exchange<'_>; 24] = [
     (&["cursor", "auto"], "", 0, "cursor auto 0\n"),
 ];
 
+const GONE: &str =
+    "{\"@id\":\"http://f.test/v3/catalog/data/2/0.json\",\"@type\":[\"PackageDelete\"],\"catalog:commitId\":\"00000000-0000-0000-0000-000000000002\",\"catalog:commitTimeStamp\":\"2024-01-01T00:00:00.0000001Z\",\"id\":\"Foo\",\"published\":\"2024-01-01T00:00:00.0000001Z\",\"version\":\"1.0.0\"}";
+
+// Its hash is that of `abcd`.
+const AGAIN: &str =
+    "{\"@id\":\"http://f.test/v3/catalog/data/3/0.json\",\"@type\":[\"PackageDetails\"],\"catalog:commitId\":\"00000000-0000-0000-0000-000000000003\",\"catalog:commitTimeStamp\":\"2024-01-01T00:00:00.0000002Z\",\"created\":\"2024-01-01T00:00:00.0000002Z\",\"id\":\"Foo\",\"isPrerelease\":false,\"listed\":true,\"origin\":\"3/0\",\"packageHash\":\"2AIvIGCtbv0perc9zFNVybIUBUsNF3ahNqZp0mp9OxT3OqDQ6/8Z7jMzaPAWS2QZqW2knj5IF1Pn6Wtxa9zLbw==\",\"packageHashAlgorithm\":\"SHA512\",\"packageSize\":4,\"published\":\"2024-01-01T00:00:00.0000002Z\",\"verbatimVersion\":\"1.0.0\",\"version\":\"1.0.0\"}";
+
+// A package that goes with all its documents, and comes again with other bytes.
+const GONE_AND_AGAIN: [Exchange<'_>; 22] = [
+    (&["init", "http://f.test/"], "", 0, "initialised\n"),
+    (&["publish"], FOO, 0, DONE),
+    (&["job", "plain"], "", 0, "done plain 1\n"),
+    (&["job", "semver2"], "", 0, "done semver2 1\n"),
+    (&["job", "content"], "", 0, "done content 1\n"),
+    (&["job", "auto"], "", 0, "done auto 1\n"),
+    (&["delete", "foo", "1.0"], "", 0, SECOND),
+    (&["job", "plain"], "", 0, "done plain 2\n"),
+    (&["job", "semver2"], "", 0, "done semver2 2\n"),
+    (&["job", "content"], "", 0, "done content 2\n"),
+    (&["job", "auto"], "", 0, "done auto 2\n"),
+    (&["get", "/v3/registration/foo/index.json"], "", 3, MISSING),
+    (&["get", "/v3/registration/foo/1.0.0.json"], "", 3, MISSING),
+    (
+        &["get", "/v3/registration-semver2/foo/index.json"],
+        "",
+        3,
+        MISSING,
+    ),
+    (&["get", "/v3/flat/foo/index.json"], "", 3, MISSING),
+    (&["get", "/v3/catalog/data/2/0.json"], "", 0, GONE),
+    (&["unlist", "Foo", "1.0.0"], "", 3, "refused absent 0 2\n"),
+    (&["publish"], FOO_AGAIN, 0, THIRD),
+    (&["get", "/v3/catalog/data/3/0.json"], "", 0, AGAIN),
+    (&["job", "content"], "", 0, "done content 3\n"),
+    (
+        &["get", "/v3/flat/foo/1.0.0/foo.1.0.0.nupkg"],
+        "",
+        0,
+        "abcd",
+    ),
+    (&["get", "/v3/flat/foo/index.json"], "", 0, VERSIONS),
+];
+
+#[test]
+fn a_package_goes_and_comes_again(rt: HostRuntime) -> Result<(), Fail> {
+    follow(&rt, rt.alloc(), &GONE_AND_AGAIN)?;
+    Ok(())
+}
+
 #[test]
 fn jobs_take_up_what_is_new(rt: HostRuntime) -> Result<(), Fail> {
     let alloc = rt.alloc();

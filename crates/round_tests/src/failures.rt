@@ -15,7 +15,7 @@ use std::test::Fail;
 const TRIES: u32 = 40;
 
 // Begins rounds until one ends, and answers whether one did, at this commit.
-fn ends<H: Hive>(
+pub fn ends<H: Hive>(
     alloc: Global,
     catalog: &mut Catalog<MemBlobs>,
     area: &mut MemBlobs,

@@ -4,6 +4,16 @@
 #![tactic(auto)]
 
 #[cfg(test)]
+mod areas;
+#[cfg(test)]
+mod changes;
+#[cfg(test)]
 mod failures;
 #[cfg(test)]
+mod random;
+#[cfg(test)]
 mod rounds;
+#[cfg(test)]
+mod stops;
+#[cfg(test)]
+mod walks;

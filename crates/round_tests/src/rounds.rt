@@ -12,7 +12,7 @@ use std::test::Fail;
 
 pub const BASE: &str = "http://f.test/";
 
-fn moment() -> Ticks {
+pub fn moment() -> Ticks {
     Ticks::of(638_396_640_000_000_000).unwrap()
 }
 
