@@ -3,17 +3,12 @@
 # same puts with all their syncs. The two take turns, publish by publish, so that the disk is the same for both. Then the
 # three hives of catalogs of 128, 256 and 512 packages, each hive by one process, beside the bare puts of the same
 # documents. Then commits of 64 packages beside the same packages one by one, and openings of catalogs of 2,000 to 200,000
-<<<<<<< HEAD
-# items beside a program of Python that reads and parses the same pages with its own JSON reader. Last the requests of a link
-# in memory that are served in a second, beside the same loop in Rust over stock httparse, with the allocations of each. It
-# takes some minutes, and prints the times and their ratios. It is skipped where python3, a C compiler or the program is
-# missing, and the last part also where `host_speed`, cargo or the source of httparse is.
-=======
 # items beside a program of Python that reads and parses the same pages with its own JSON reader. Then jobs of catalogs of
 # 2,000 and 10,000 versions, the first of each beside the bare puts that it makes, and jobs behind one publish each: of those
-# it is checked that they read no leaf but the new one and no state of another id, and put nothing of another id. It takes
-# some minutes, and prints the times and their ratios. It is skipped where python3, a C compiler or the program is missing.
->>>>>>> ab437c38f8c35b778ef4a3c4a0663c9f49983fb2
+# it is checked that they read no leaf but the new one and no state of another id, and put nothing of another id. Last the
+# requests of a link in memory that are served in a second, beside the same loop in Rust over stock httparse, with the
+# allocations of each. It takes some minutes, and prints the times and their ratios. It is skipped where python3, a C compiler
+# or the program is missing, and the last part also where `host_speed`, cargo or the source of httparse is.
 #
 # Use: sh checks/speed.sh [PROGRAM [SERVING]]
 # PROGRAM is crates/feed/out/feed unless it is given, and SERVING crates/host_speed/out/host_speed. The source of httparse is
@@ -204,7 +199,6 @@ def openings():
         print(f"opening {items} items, {length / (1 << 20):.1f} MiB of pages: {ours * 1000:.0f} ms, {ours / items * 1e6:.2f} us an item, "
               f"{memory / 1024:.1f} MiB of memory at the most; Python's reader {theirs * 1000:.0f} ms, ratio {ours / theirs:.2f}")
 
-<<<<<<< HEAD
 def beside_httparse():
     """The program of the same loop in Rust, if it can be made."""
     sources = [os.environ["HTTPARSE"]] if "HTTPARSE" in os.environ else glob.glob("/usr/share/cargo/registry/httparse-*")
@@ -246,7 +240,7 @@ def requests():
     ours, beside = min(times[serving]), min(times[theirs])
     print(f"{count} requests of a link, each answered with 22 bytes: {count / ours:.0f} a second with {allocations(serving):.0f} "
           f"allocations each, by stock httparse in Rust {count / beside:.0f} with {allocations(theirs):.0f}, ratio {beside / ours:.2f}")
-=======
+
 def round_puts(area):
     """The puts of a first job, in order: of each id its state, its documents and its state again; last the cursor."""
     names = []
@@ -307,7 +301,6 @@ def rounds():
         beside.append(next_rounds(folder, items))
     print(f"a job of one id without the opening: {beside[0] * 1000:.1f} ms, and {beside[1] * 1000:.1f} ms of {IDS[1] // IDS[0]} times "
           f"as many versions")
->>>>>>> ab437c38f8c35b778ef4a3c4a0663c9f49983fb2
 
 if subprocess.run([feed, store, "init", "http://f.test/"], stdout=subprocess.DEVNULL).returncode != 0:
     sys.exit("checks/speed.sh: init failed")
@@ -328,9 +321,6 @@ for size in SIZES:
 one_id()
 together()
 openings()
-<<<<<<< HEAD
-requests()
-=======
 rounds()
->>>>>>> ab437c38f8c35b778ef4a3c4a0663c9f49983fb2
+requests()
 EOF
