@@ -20,6 +20,7 @@ use Rattle.admin_wire.specs.declared.line.Refusal.TheVariants as refusal
 use Rattle.feed_app.specs.Answers.{answer_status}
 use Rattle.feed_app.specs.Gets.{AnswersPath, Gets, OfHive}
 use Rattle.feed_app.specs.Hives.{hive_fold, hive_name, hive_stores}
+use Rattle.feed_app.specs.Openings.{MayOpen}
 use Rattle.feed_app.specs.Outside.{Members, area_of, held}
 use Rattle.feed_app.specs.Spelled.{HasCatalog}
 use Rattle.feed_app.specs.Targets.{IsHivePath, hive_ask}
@@ -28,7 +29,7 @@ use Rattle.feed_app.specs.declared.answer.Answer.TheVariants.{Reply, Document}
 use Rattle.feed_app.specs.declared.hives.ServedHive.{ServedHive}
 use Rattle.feed_app.specs.declared.hives.ServedHive.TheVariants.{Plain, SemVer2, Content}
 use Rattle.feed_app.proofs.Asked.{catalog_hive, hive_index, hive_server, same_hive}
-use Rattle.feed_app.proofs.Closed.{of_store_not}
+use Rattle.feed_app.proofs.Closed.{closed_not, closed_store}
 use Rattle.app_laws.specs.Scratch.{from_scratch}
 use Rattle.app_laws.proofs.JobRounds.{scratch_of}
 
@@ -63,11 +64,14 @@ module _ {B : Type 0} (m : Members B) (hive : ServedHive) (path name : List ℕ)
   of_path catalog (inr (same, inr (inr (inr (inl unknown))))) = absurd (unknown.0 (hive_ask hive name) names)
   of_path catalog (inr (same, inr (inr (inr (inr memory))))) = inr memory
 
-  -- over a catalog that is spelled: a status that is neither 4 nor 8 tells what the hive's area holds
-  pub of_get : (catalog : Seen) (base : List ℕ) (cs : Catalog) (status : ℕ) → HasCatalog catalog base cs → Gets m answer path catalog old new
-      → answer_status answer ≡ status → status ≢ 4 → status ≢ 8 → OfHive hive answer name (held m (old hive))
-  of_get catalog base cs status has (inl (closed, same)) own no4 no8 = absurd (of_store_not answer status (closed.of_store base cs has) own no4 no8)
-  of_get catalog base cs status has (inr reads) own no4 no8 =
+  -- over a catalog that is spelled: a status that is neither 4 nor 8, nor 3 for another base address, tells what the hive's area holds
+  pub of_get : (given : Option (List ℕ)) (catalog later : Seen) (base : List ℕ) (cs : Catalog) (status : ℕ) → HasCatalog catalog base cs
+      → Gets m given answer path catalog later old new → (status ≢ 3) ⊎ MayOpen given catalog → answer_status answer ≡ status → status ≢ 4 → status ≢ 8
+      → OfHive hive answer name (held m (old hive))
+  of_get given catalog later base cs status has (inl (closed, same)) other own no4 no8 = absurd (⊎_elim
+      (λ no3. closed_not given answer catalog later closed base cs has status own no3 no4 no8)
+      (λ may. closed_store given answer catalog later closed base cs has may status own no4 no8) other)
+  of_get given catalog later base cs status has (inr (may, reads)) other own no4 no8 =
       ⊎_elim (λ is. is) (λ memory. absurd (no8 (sym own ∙ ap answer_status memory))) (of_path catalog reads)
 
 -- a document, or none

@@ -1,5 +1,5 @@
 -- What a run of a command says of a sound hive's store, of its documents and of its cursor.
-use Rattle.std.proofs.Common.{◌≡◌, ◌⊎◌, ◌≤◌, inl, inr, ℕ, List, length, take, Option, Some, None, refl, sym, ◌∙◌, ap, subst, arith}
+use Rattle.std.proofs.Common.{◌≡◌, ◌≢◌, ◌⊎◌, ◌≤◌, inl, inr, ℕ, List, length, take, Option, Some, None, refl, sym, ◌∙◌, ap, subst, arith}
 use Rattle.std.specs.FinMap.{get}
 use Rattle.feed_base.proofs.Options.{at_some}
 use Rattle.blob_store.specs.Area.{Area}
@@ -19,10 +19,11 @@ use Rattle.admin_wire.specs.Lines.{line_text}
 use Rattle.admin_wire.specs.declared.area.AreaName.TheVariants as area
 use Rattle.admin_wire.specs.declared.line.Line.TheVariants as line
 use Rattle.feed_app.specs.Answers.{answer_status, answer_text}
-use Rattle.feed_app.specs.Commands.{Cursor, Get, Job, command_of}
+use Rattle.feed_app.specs.Commands.{Cursor, Get, Job, base_of, command_of}
 use Rattle.feed_app.specs.Cursors.{Cursors, TellsCursor}
 use Rattle.feed_app.specs.Gets.{OfHive}
 use Rattle.feed_app.specs.Hives.{hive_fold, hive_name, hive_stores}
+use Rattle.feed_app.specs.Openings.{MayOpen}
 use Rattle.feed_app.specs.Outside.{Bounds, Outside, Stream, area_of, held, output_of, sight}
 use Rattle.feed_app.specs.Runs.{RunsCommand}
 use Rattle.feed_app.specs.Targets.{IsHivePath}
@@ -30,7 +31,7 @@ use Rattle.feed_app.specs.Writes.{HasMore}
 use Rattle.feed_app.specs.declared.answer.Answer.{Answer}
 use Rattle.feed_app.specs.declared.answer.Answer.TheVariants.{Document, Reply}
 use Rattle.feed_app.specs.declared.hives.ServedHive.{ServedHive}
-use Rattle.feed_app.proofs.Closed.{of_store_not}
+use Rattle.feed_app.proofs.Closed.{closed_not}
 use Rattle.app_laws.specs.Feeds.{HoldsHive}
 use Rattle.app_laws.specs.Scratch.{IsMadeOf, from_scratch}
 use Rattle.app_laws.proofs.Documents.{found, missing, of_get, prefix_of, same_store}
@@ -71,7 +72,7 @@ module _ {B I O C : Type 0} (b : Bounds B I O C) (words : List (List ℕ)) (befo
     job_settled asked zero =
         let its = done b words before after status run (Job hive) asked in
         let end = job_ended b.blobs hive (b.blobs.seen before.stores.catalog) (b.blobs.seen Old) (b.blobs.seen New) base cs c holds.sound.0 holds.catalog
-        holds.sound.1 holds.sound.2 run.answer its.acts (zero_of b words before after status run zero) in (
+        holds.sound.1 holds.sound.2 (base_of words) (b.blobs.seen after.stores.catalog) run.answer its.acts (zero_of b words before after status run zero) in (
           end.0,
           done_line hive end.1.0 (length cs) (output_of b.sink before.output) (output_of b.sink after.output) end.1.1
               (written (Reply (line_of hive end.1.0)) end.1.2 zero),
@@ -86,14 +87,16 @@ module _ {B I O C : Type 0} (b : Bounds B I O C) (words : List (List ℕ)) (befo
     job_sound asked sure =
         let its = done b words before after status run (Job hive) asked in
         job_kept b.blobs hive (b.blobs.seen before.stores.catalog) (b.blobs.seen Old) (b.blobs.seen New) base cs c holds.sound.0 holds.catalog
-        holds.sound.1 holds.sound.2 run.answer
+        holds.sound.1 holds.sound.2 (base_of words) (b.blobs.seen after.stores.catalog) run.answer
         (λ same. unmoved b.blobs Old New holds.sound.0 (IsSoundOrSettled (hive_fold hive base) cs c) sure holds.sound.1 (inl holds.sound.2) same) its.acts
 
-    cursor_answer : Cursors hive run.answer (b.blobs.seen before.stores.catalog) (New ≡ Old) (held b.blobs Old) → answer_status run.answer ≡ 0
+    cursor_answer : Cursors (base_of words) hive run.answer (b.blobs.seen before.stores.catalog) (b.blobs.seen after.stores.catalog) (New ≡ Old) (held b.blobs Old)
+        → answer_status run.answer ≡ 0
         → run.answer ≡ Reply (line.Cursor hive c)
     cursor_answer (inl (closed, same)) zero =
-        absurd (of_store_not run.answer 0 (closed.of_store base cs holds.catalog) zero (λ e. omega (arith, e)) (λ e. omega (arith, e)))
-    cursor_answer (inr is) zero =
+        absurd (closed_not (base_of words) run.answer (b.blobs.seen before.stores.catalog) (b.blobs.seen after.stores.catalog) closed base cs holds.catalog 0 zero
+        (λ e. omega (arith, e)) (λ e. omega (arith, e)) (λ e. omega (arith, e)))
+    cursor_answer (inr (may, is)) zero =
         let told = told_cursor hive run.answer holds.sound.0 (subst (λ (h : Option Area). TellsCursor hive run.answer h) holds.sound.1 is) zero in
         let sound = holds.sound.2.1 in
         told.1 ∙ ap (λ (n : ℕ). Reply (line.Cursor hive n))
@@ -112,24 +115,25 @@ module _ {B I O C : Type 0} (b : Bounds B I O C) (words : List (List ℕ)) (befo
     there : held b.blobs (hive_stores before.stores hive) ≡ Some Blobs
     there = ap (held b.blobs) (same_store before.stores hive) ∙ holds.sound.1
 
-    of_it : (n : ℕ) → answer_status run.answer ≡ n → (n ≡ 4 → ⊥) → (n ≡ 8 → ⊥) → OfHive hive run.answer name (Some Blobs)
-    of_it n own no4 no8 =
+    of_it : (n : ℕ) → (n ≢ 3) ⊎ MayOpen (base_of words) (b.blobs.seen before.stores.catalog) → answer_status run.answer ≡ n → (n ≡ 4 → ⊥) → (n ≡ 8 → ⊥)
+        → OfHive hive run.answer name (Some Blobs)
+    of_it n other own no4 no8 =
         let its = done b words before after status run (Get path) asked in
         subst (λ (h : Option Area). OfHive hive run.answer name h) there
-        (of_get b.blobs hive path name names (hive_stores before.stores) (hive_stores after.stores) run.answer (b.blobs.seen before.stores.catalog) base cs n
-        holds.catalog its.acts own no4 no8)
+        (of_get b.blobs hive path name names (hive_stores before.stores) (hive_stores after.stores) run.answer (base_of words) (b.blobs.seen before.stores.catalog)
+        (b.blobs.seen after.stores.catalog) base cs n holds.catalog its.acts other own no4 no8)
 
     pub get_found : status ≡ 0 → (k : ℕ) × (bytes : List ℕ) × (c ≤ k) × (k ≤ length cs)
         × (from_scratch (hive_name hive) base (take k cs) name ≡ Some bytes) × More bytes
     get_found zero =
-        let is = found hive name Blobs run.answer (of_it 0 (zero_of b words before after status run zero) (λ e. omega (arith, e)) (λ e. omega (arith, e)))
+        let is = found hive name Blobs run.answer (of_it 0 (inl (λ e. omega (arith, e))) (zero_of b words before after status run zero) (λ e. omega (arith, e)) (λ e. omega (arith, e)))
         (zero_of b words before after status run zero) in
         let at = prefix_of hive path name base cs c Blobs names holds.sound.2 in
         (at.0, is.0, at.1, at.2, sym at.3 ∙ is.2, written (Document is.0) is.1 zero)
 
-    pub get_missing : status ≡ 3 → (k : ℕ) × (c ≤ k) × (k ≤ length cs) × (from_scratch (hive_name hive) base (take k cs) name ≡ None)
-    get_missing three =
+    pub get_missing : MayOpen (base_of words) (b.blobs.seen before.stores.catalog) → status ≡ 3 → (k : ℕ) × (c ≤ k) × (k ≤ length cs) × (from_scratch (hive_name hive) base (take k cs) name ≡ None)
+    get_missing may three =
         let own = three_of b words before after status run three in
-        let none = missing hive name Blobs run.answer (of_it 3 own (λ e. omega (arith, e)) (λ e. omega (arith, e))) own in
+        let none = missing hive name Blobs run.answer (of_it 3 (inr may) own (λ e. omega (arith, e)) (λ e. omega (arith, e))) own in
         let at = prefix_of hive path name base cs c Blobs names holds.sound.2 in
         (at.0, at.1, at.2, sym at.3 ∙ none)

@@ -16,7 +16,7 @@ use Rattle.feed_app.specs.Publishes.{Ends, NotTaken, Publishes, commit_reply}
 use Rattle.feed_app.specs.Spelled.{HasCatalog}
 use Rattle.feed_app.specs.declared.answer.Answer.{Answer}
 use Rattle.feed_app.specs.declared.answer.Answer.TheVariants.{Reply}
-use Rattle.feed_app.proofs.Closed.{of_store_not}
+use Rattle.feed_app.proofs.Closed.{closed_not}
 use Rattle.app_laws.specs.Histories.{AsksChanges, IsEndedWith}
 
 not_taken_zero : (answer : Answer) (rest : Option (List ℕ)) → NotTaken answer rest → answer_status answer ≡ 0 → ⊥
@@ -81,13 +81,14 @@ module _ {B : Type 0} (m : Members B) (before after : Sight B) (answer : Answer)
   by_result changes now (Err error.ClockEnd) asks (why, there) = without (commit_reply (Err error.ClockEnd)) there (λ zero. omega (arith, zero))
 
   abbrev EndsWith : List Change → Type 0
-  EndsWith changes = Ends answer changes (m.seen before.stores.catalog) (m.seen after.stores.catalog) before.clock after.clock
+  EndsWith changes = Ends before.given answer changes (m.seen before.stores.catalog) (m.seen after.stores.catalog) before.clock after.clock
 
   by_end : (changes : List Change) → AsksChanges command before.input.told changes → EndsWith changes → Made answer
   by_end changes asks (inl (closed, spelled, unasked)) =
       without answer (spelled.spelled base cs has).0
-      (λ zero. of_store_not answer 0 (closed.of_store base cs has) zero (λ e. omega (arith, e)) (λ e. omega (arith, e)))
-  by_end changes asks (inr (now, r, tells, is, commits)) = subst Made (sym is) (by_result changes now r asks (commits.commits base cs has))
+      (λ zero. closed_not before.given answer (m.seen before.stores.catalog) (m.seen after.stores.catalog) closed base cs has 0 zero
+      (λ e. omega (arith, e)) (λ e. omega (arith, e)) (λ e. omega (arith, e)))
+  by_end changes asks (inr (may, now, r, tells, is, commits)) = subst Made (sym is) (by_result changes now r asks (commits.commits base cs has))
 
   unmoved : after.stores.catalog ≡ before.stores.catalog → HasAfter cs
   unmoved same = subst (λ (x : B). HasCatalog (m.seen x) base cs) (sym same) has

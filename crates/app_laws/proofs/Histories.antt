@@ -15,7 +15,7 @@ use Rattle.admin_wire.specs.declared.area.AreaName.{AreaName}
 use Rattle.admin_wire.specs.declared.area.AreaName.TheVariants as area
 use Rattle.admin_wire.specs.declared.line.Line.TheVariants as line
 use Rattle.feed_app.specs.Answers.{answer_status}
-use Rattle.feed_app.specs.Commands.{Get, Init, command_of}
+use Rattle.feed_app.specs.Commands.{Get, Init, base_of, command_of}
 use Rattle.feed_app.specs.Does.{meaning}
 use Rattle.feed_app.specs.Frame.{touch_of}
 use Rattle.feed_app.specs.Hives.{hive_fold, hive_name}
@@ -55,7 +55,7 @@ module _ {B I O C : Type 0} (b : Bounds B I O C) (sure : (store : B) → IsSure 
         → (ds : Catalog) × (to : Cursors) × HoldsFeed b.blobs after.stores base ds to
         × Becomes (command_of words) (input_of b.source before.input).told (Ended status) cs ds × Reach at to
     command_kept base cs at holds =
-        feed_ended b.blobs sure (sight b before) (sight b after) run.answer base cs at holds.0 holds.1 holds.2 status
+        feed_ended b.blobs sure (sight b (base_of words) before) (sight b (base_of words) after) run.answer base cs at holds.0 holds.1 holds.2 status
         (zero_of b words before after status run) (three_of b words before after status run)
         (command_of words) run.does
 
@@ -69,7 +69,7 @@ module _ {B I O C : Type 0} (b : Bounds B I O C) (sure : (store : B) → IsSure 
     feed_begun base asked text hold zero =
         let its = done b words before after status run (Init base) asked in
         let first = init_made base empty run.answer (held b.blobs after.stores.catalog)
-        (subst (λ (h : Option Area). Inits base h run.answer (held b.blobs after.stores.catalog)) (hold area.Catalog) its.acts) (zero_of b words before after status run zero) in
+        (subst (λ (h : Option Area). Inits base h run.answer (held b.blobs after.stores.catalog)) (hold area.Catalog) its.acts.0) (zero_of b words before after status run zero) in
         let index = with_blob index_name (index_text base []) empty in
         let hives : (hive : HiveName) → held b.blobs (area_of after.stores (area.Hive hive)) ≡ Some empty =
         (λ hive. still_held b.blobs (touch_of (meaning b.blobs (Init base)).reach (area.Hive hive)) (area_of before.stores (area.Hive hive))
@@ -93,7 +93,8 @@ module _ {B I O C : Type 0} (b : Bounds B I O C) (sure : (store : B) → IsSure 
         kept.4,
       )
   leads step Crashed old new base cs at (before, after, status, called, run, not, left) feed =
-      let kept = feed_left b.blobs sure (sight b before) (sight b after) run.answer base cs at old called.stores feed new (command_of step.words) not run.does left in (
+      let kept = feed_left b.blobs sure (sight b (base_of step.words) before) (sight b (base_of step.words) after) run.answer base cs at
+      old called.stores feed new (command_of step.words) not run.does left in (
         kept.0,
         kept.1,
         kept.2,

@@ -1,5 +1,5 @@
 -- What a job's round left.
-use Rattle.std.proofs.Common.{◌≡◌, inl, inr, ℕ, List, length, Some, Ok, Err, Result, sym, ◌∙◌, ap, subst, arith}
+use Rattle.std.proofs.Common.{◌≡◌, inl, inr, ℕ, List, length, Option, Some, Ok, Err, Result, sym, ◌∙◌, ap, subst, arith}
 use Rattle.std.proofs.lemmas.List.{take_all}
 use Rattle.std.specs.Option.{option_and_then}
 use Rattle.blob_store.specs.Area.{Area}
@@ -31,7 +31,7 @@ use Rattle.feed_app.specs.Outside.{Members}
 use Rattle.feed_app.specs.Spelled.{HasCatalog, IsSpelled}
 use Rattle.feed_app.specs.declared.answer.Answer.{Answer}
 use Rattle.feed_app.specs.declared.answer.Answer.TheVariants.{Reply}
-use Rattle.feed_app.proofs.Closed.{of_store_not}
+use Rattle.feed_app.proofs.Closed.{closed_not}
 use Rattle.app_laws.specs.Scratch.{IsMadeOf, from_scratch}
 use Rattle.app_laws.proofs.HiveLaws.{laws_of, staged_in}
 
@@ -97,18 +97,20 @@ module _ {B : Type 0} (m : Members B) (hive : HiveName) (catalog old new : Seen)
   number : (told : RoundOut) → MadeOver m hive catalog old new (Ok told) → told_number told ≡ length cs
   number told over = (made_at_base (Ok told) over).number cs (over.1 base cs has).1
 
-  pub job_ended : {Same : Type 0} (answer : Answer) → Jobs m hive answer catalog Same old new → answer_status answer ≡ 0
+  pub job_ended : {Same : Type 0} (given : Option (List ℕ)) (later : Seen) (answer : Answer) → Jobs m given hive answer catalog later Same old new
+      → answer_status answer ≡ 0
       → HoldsArea new (SettledArea f cs (length cs)) × ((told : RoundOut) × (told_number told ≡ length cs) × (answer ≡ Reply (line_of hive told)))
-  job_ended answer (inl (closed, same)) zero =
-      absurd (of_store_not answer 0 (closed.of_store base cs has) zero (λ e. omega (arith, e)) (λ e. omega (arith, e)))
-  job_ended answer (inr told) zero =
+  job_ended given later answer (inl (closed, same)) zero =
+      absurd (closed_not given answer catalog later closed base cs has 0 zero (λ e. omega (arith, e)) (λ e. omega (arith, e)) (λ e. omega (arith, e)))
+  job_ended given later answer (inr (may, told)) zero =
       let end = ended_of hive (MadeOver m hive catalog old new) (IsUnread catalog.held) (IsLostOfHive (IsSpelled catalog) new.held) answer told zero in
       (settled end.0 end.1, (end.0, number end.0 end.1, end.2))
 
-  pub job_kept : {Same : Type 0} (answer : Answer) → (Same → HoldsArea new Either × LeavesOnly old new Either) → Jobs m hive answer catalog Same old new
+  pub job_kept : {Same : Type 0} (given : Option (List ℕ)) (later : Seen) (answer : Answer) → (Same → HoldsArea new Either × LeavesOnly old new Either)
+      → Jobs m given hive answer catalog later Same old new
       → HoldsArea new Either × LeavesOnly old new Either
-  job_kept answer unmoved (inl (closed, same)) = unmoved same
-  job_kept answer unmoved (inr told) =
+  job_kept given later answer unmoved (inl (closed, same)) = unmoved same
+  job_kept given later answer unmoved (inr (may, told)) =
       let made = made_of hive (MadeOver m hive catalog old new) (IsUnread catalog.held) (IsLostOfHive (IsSpelled catalog) new.held) answer told in
       kept made.0 made.1
 

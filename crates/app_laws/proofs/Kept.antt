@@ -122,7 +122,7 @@ module _ {B : Type 0} (m : Members B) (sure : (store : B) → IsSure (m.seen sto
       × LeavesOnly (m.seen (old_of hive)) (m.seen (new_of hive)) (IsSoundOrSettled (f hive) cs (at hive))
   job_left hive done =
       job_kept m hive (m.seen before.stores.catalog) (m.seen (old_of hive)) (m.seen (new_of hive))
-      base cs (at hive) (areas (area.Hive hive)) has (hold (area.Hive hive)) (feed.hives hive) answer
+      base cs (at hive) (areas (area.Hive hive)) has (hold (area.Hive hive)) (feed.hives hive) before.given (m.seen after.stores.catalog) answer
       (λ same. unmoved m (old_of hive) (new_of hive) (areas (area.Hive hive))
       (IsSoundOrSettled (f hive) cs (at hive)) (sure (old_of hive)) (hold (area.Hive hive)) (inl (feed.hives hive)) same)
       done.acts
@@ -183,7 +183,7 @@ module _ {B : Type 0} (m : Members B) (sure : (store : B) → IsSure (m.seen sto
         store = (
           areas area.Catalog,
           init_left other (areas area.Catalog) answer (held m after.stores.catalog) (no_index (areas area.Catalog) base cs feed.spells)
-              (subst (λ (h : Option Area). Inits other h answer (held m after.stores.catalog)) (hold area.Catalog) done.acts),
+              (subst (λ (h : Option Area). Inits other h answer (held m after.stores.catalog)) (hold area.Catalog) done.acts.0),
           feed.spells,
         );
       },

@@ -1,7 +1,7 @@
 -- What was written, and the status of the answer.
 use Rattle.std.proofs.Common.{◌≡◌, ◌≢◌, ◌∙◌, ℕ, List, Option, Some, inl, inr, sym, subst, arith}
 use Rattle.feed_app.specs.Answers.{answer_status, answer_text}
-use Rattle.feed_app.specs.Commands.{Command, command_of}
+use Rattle.feed_app.specs.Commands.{Command, base_of, command_of}
 use Rattle.feed_app.specs.Does.{Does, meaning}
 use Rattle.feed_app.specs.Frame.{IsDone}
 use Rattle.feed_app.specs.Outside.{Bounds, Outside, Stream, output_of, sight}
@@ -22,8 +22,9 @@ own_status answer status old new (inr (inr front)) no5 no8 = absurd (no5 front.n
 
 module _ {B I O C : Type 0} (b : Bounds B I O C) (words : List (List ℕ)) (before after : Outside B I O C) (status : ℕ)
     (run : RunsCommand b words before status after) where
-  pub done : (command : Command) → command_of words ≡ Some command → IsDone b.blobs (meaning b.blobs command) (sight b before) run.answer (sight b after)
-  done command is = subst (λ (o : Option Command). Does b.blobs o (sight b before) run.answer (sight b after)) is run.does
+  pub done : (command : Command) → command_of words ≡ Some command → IsDone b.blobs (meaning b.blobs command) (sight b (base_of words) before)
+      run.answer (sight b (base_of words) after)
+  done command is = subst (λ (o : Option Command). Does b.blobs o (sight b (base_of words) before) run.answer (sight b (base_of words) after)) is run.does
 
   pub zero_of : status ≡ 0 → answer_status run.answer ≡ 0
   zero_of zero = own_status run.answer status (output_of b.sink before.output) (output_of b.sink after.output) run.writes

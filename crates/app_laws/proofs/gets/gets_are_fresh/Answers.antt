@@ -7,5 +7,5 @@ returns-clause-found g c = λ words before after status run hive path name base 
     get_found (bounds g.B.Blobs g.I.Source g.O.Sink g.C.Clock) words before after status run hive path name base cs at asked names holds zero
 
 pub returns-clause-missing : goal.returns-clause-missing
-returns-clause-missing g c = λ words before after status run hive path name base cs at asked names holds three.
-    get_missing (bounds g.B.Blobs g.I.Source g.O.Sink g.C.Clock) words before after status run hive path name base cs at asked names holds three
+returns-clause-missing g c = λ words before after status run hive path name base cs at asked names holds may three.
+    get_missing (bounds g.B.Blobs g.I.Source g.O.Sink g.C.Clock) words before after status run hive path name base cs at asked names holds may three
