@@ -4,6 +4,7 @@ use Rattle.blob_store.specs.Moments.{LeavesOnly}
 use Rattle.blob_store.specs.Seen.{Seen}
 use Rattle.blob_store.proofs.Moments.{weaker}
 use Rattle.pkg_meta.specs.Catalog.{Catalog}
+use Rattle.catalog_doc.specs.Catalogs.{IsCatalog}
 use Rattle.catalog_doc.specs.Spelled.{SpellsCatalog}
 use Rattle.catalog_doc.specs.Verdict.{verdict}
 use Rattle.catalog_doc.specs.declared.change.Change.{Change}
@@ -74,8 +75,9 @@ pub commits_behind : {B : Type 0} (s now after : Seen) (o n : Opened B) (changes
     → StaysSpelled s now → IsOpenOver s o now → n.base ≡ o.base
     → ((cs : Catalog) → IsOpenFor o now cs → Commits cs changes moment r (IsOpenFor n after))
     → ((cs : Catalog) → IsOpenFor o now cs → LeavesOnly now after (λ left. WithOrWithout cs changes moment (SpellsCatalog left o.base)))
+    → ((cs : Catalog) → IsCatalog cs → MayBeCommitted cs changes moment → IsCatalog (with_made cs changes moment))
     → CommitsAt changes moment s after r
-commits_behind s now after o n changes moment r first over same commits moments = record {
+commits_behind s now after o n changes moment r first over same commits moments lawful = record {
   commits = λ base cs has.
       let at = over base cs has in
       commits_as cs changes moment r (IsOpenFor n after) (HasCatalog after base)
@@ -87,6 +89,7 @@ commits_behind s now after o n changes moment r first over same commits moments 
       (weaker s now (λ left. SpellsCatalog left base cs) (λ left. WithOrWithout cs changes moment (SpellsCatalog left base)) (first.spelled base cs has).1
       (λ left here. inl here))
       (subst (λ (x : List ℕ). LeavesOnly now after (λ left. WithOrWithout cs changes moment (SpellsCatalog left x))) at.0 (moments cs at.1));
+  lawful = λ base cs has. lawful cs has.lawful;
 }
 
 -- a commit that wasn't refused

@@ -26,7 +26,8 @@ returns-in-Ok-commit-clause-ends g c =
       c.moment-now.ensures,
       refl,
       commits_behind s now _ c.in-Ok.catalog c.commit.new.self c.args.changes.now c.moment-now.result
-          (Ok c.in-Ok-commit.done) spelled opened c.commit.ensures.base c.in-Ok-commit.ensures.commits c.commit.ensures.moments,
+          (Ok c.in-Ok-commit.done) spelled opened c.commit.ensures.base c.in-Ok-commit.ensures.commits c.commit.ensures.moments
+          c.commit.ensures.lawful,
     ))
 
 pub returns-in-Err-commit-clause-ends : goal.returns-in-Err-commit-clause-ends
@@ -41,5 +42,6 @@ returns-in-Err-commit-clause-ends g c =
       c.moment-now.ensures,
       c.of_commit.ensures,
       commits_behind s now _ c.in-Ok.catalog c.commit.new.self c.args.changes.now c.moment-now.result
-          (Err c.in-Err-commit.error) spelled opened c.commit.ensures.base c.in-Err-commit.ensures.commits c.commit.ensures.moments,
+          (Err c.in-Err-commit.error) spelled opened c.commit.ensures.base c.in-Err-commit.ensures.commits c.commit.ensures.moments
+          c.commit.ensures.lawful,
     ))
