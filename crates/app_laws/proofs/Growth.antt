@@ -2,12 +2,17 @@
 use Rattle.std.proofs.Common.{◌≡◌, ◌⊎◌, inl, inr, ℕ, List, length, Option, Ok, Err, Result, refl, sym, ◌∙◌, ap, subst, arith}
 use Rattle.admin_wire.specs.declared.line.Line.TheVariants as line
 use Rattle.admin_wire.specs.declared.names.NameKind.{NameKind}
+use Rattle.blob_store.specs.Area.{Area}
+use Rattle.blob_store.specs.Seen.{IsSure}
+use Rattle.blob_store.proofs.Moments.{started}
 use Rattle.pkg_meta.specs.Catalog.{Catalog}
+use Rattle.catalog_doc.specs.Catalogs.{IsCatalog}
+use Rattle.catalog_doc.specs.Spelled.{SpellsCatalog}
 use Rattle.catalog_doc.specs.declared.change.Change.{Change}
 use Rattle.catalog_doc.specs.declared.change.Committed.{Committed}
 use Rattle.catalog_doc.specs.declared.error.CommitErr.{CommitErr}
 use Rattle.catalog_doc.specs.declared.error.CommitErr.TheVariants as error
-use Rattle.catalog_core.specs.Committing.{Commits, MayBeCommitted, with_made}
+use Rattle.catalog_core.specs.Committing.{Commits, MayBeCommitted, WithOrWithout, with_made}
 use Rattle.feed_app.specs.Answers.{answer_status}
 use Rattle.feed_app.specs.Commands.{Command, Names, Pair, Publish}
 use Rattle.feed_app.specs.Names.{CommitsNames, NotAsked, NotRead}
@@ -17,7 +22,8 @@ use Rattle.feed_app.specs.Spelled.{HasCatalog}
 use Rattle.feed_app.specs.declared.answer.Answer.{Answer}
 use Rattle.feed_app.specs.declared.answer.Answer.TheVariants.{Reply}
 use Rattle.feed_app.proofs.Closed.{closed_not}
-use Rattle.app_laws.specs.Histories.{AsksChanges, IsEndedWith}
+use Rattle.app_laws.specs.Histories.{AsksChanges, IsEndedWith, IsLeft, IsWithCommit}
+use Rattle.app_laws.proofs.Stores.{at_moment}
 
 not_taken_zero : (answer : Answer) (rest : Option (List ℕ)) → NotTaken answer rest → answer_status answer ≡ 0 → ⊥
 not_taken_zero (Reply (line.Refused why)) rest is zero = omega (arith, zero)
@@ -93,6 +99,38 @@ module _ {B : Type 0} (m : Members B) (before after : Sight B) (answer : Answer)
   unmoved : after.stores.catalog ≡ before.stores.catalog → HasAfter cs
   unmoved same = subst (λ (x : B). HasCatalog (m.seen x) base cs) (sym same) has
 
+  -- what a crash leaves
+  module _ (left : Area) (at : IsLeft (m.seen before.stores.catalog) (m.seen after.stores.catalog) left) where
+    abbrev Left : Type 0
+    Left = (ds : Catalog) × IsCatalog ds × SpellsCatalog left base ds × ((ds ≡ cs) ⊎ IsWithCommit command before.input.told cs ds)
+
+    left_with : (changes : List Change) (now : ℕ) → AsksChanges command before.input.told changes
+        → (MayBeCommitted cs changes now → IsCatalog (with_made cs changes now)) → WithOrWithout cs changes now (SpellsCatalog left base) → Left
+    left_with changes now asks lawful (inl spells) = (cs, has.lawful, spells, inl refl)
+    left_with changes now asks lawful (inr (taken, spells)) = (with_made cs changes now, lawful taken, spells, inr (changes, now, asks, taken, refl))
+
+    left_by_end : (changes : List Change) → AsksChanges command before.input.told changes → EndsWith changes → Left
+    left_by_end changes asks (inl (closed, spelled, unasked)) = (
+      cs,
+      has.lawful,
+      at_moment (m.seen before.stores.catalog) (m.seen after.stores.catalog) (λ (a : Area). SpellsCatalog a base cs) left (spelled.spelled base cs has).1 at,
+      inl refl,
+    )
+    left_by_end changes asks (inr (may, now, r, tells, is, commits)) =
+        left_with changes now asks (commits.lawful base cs has)
+        (at_moment (m.seen before.stores.catalog) (m.seen after.stores.catalog) (λ (a : Area). WithOrWithout cs changes now (SpellsCatalog a base)) left
+        (commits.moments base cs has) at)
+
+    left_unmoved : IsSure (m.seen before.stores.catalog) → after.stores.catalog ≡ before.stores.catalog → Left
+    left_unmoved sure same = (
+      cs,
+      has.lawful,
+      at_moment (m.seen before.stores.catalog) (m.seen before.stores.catalog) (λ (a : Area). SpellsCatalog a base cs) left
+          (started (m.seen before.stores.catalog) has.store.0 (λ (a : Area). SpellsCatalog a base cs) sure has.store.1 has.store.2)
+          (subst (λ (x : B). IsLeft (m.seen before.stores.catalog) (m.seen x) left) same at),
+      inl refl,
+    )
+
 -- of a publish
 module _ {B : Type 0} (m : Members B) (before after : Sight B) (answer : Answer) (base : List ℕ) (cs : Catalog)
     (has : HasCatalog (m.seen before.stores.catalog) base cs) where
@@ -102,6 +140,11 @@ module _ {B : Type 0} (m : Members B) (before after : Sight B) (answer : Answer)
       (not_taken_zero answer before.input.told not_taken)
   publish_made (inr (changes, brings, ends)) = by_end m before after answer base cs has Publish changes brings ends
 
+  pub publish_left : (left : Area) (at : IsLeft (m.seen before.stores.catalog) (m.seen after.stores.catalog) left) → IsSure (m.seen before.stores.catalog)
+      → Publishes m before answer after → Left m before after answer base cs has Publish left at
+  publish_left left at sure (inl (not_taken, same, unasked)) = left_unmoved m before after answer base cs has Publish left at sure same
+  publish_left left at sure (inr (changes, brings, ends)) = left_by_end m before after answer base cs has Publish left at changes brings ends
+
   -- of names
   pub names_made : (kind : NameKind) (pairs : List Pair) → CommitsNames m kind pairs before answer after
       → Made m before after answer base cs has (Names kind pairs) answer
@@ -109,3 +152,9 @@ module _ {B : Type 0} (m : Members B) (before after : Sight B) (answer : Answer)
       without m before after answer base cs has (Names kind pairs) answer (unmoved m before after answer base cs has (Names kind pairs) same)
       (unread_zero answer kind pairs first)
   names_made kind pairs (inr (changes, asked, ends)) = by_end m before after answer base cs has (Names kind pairs) changes asked ends
+
+  pub names_left : (kind : NameKind) (pairs : List Pair) (left : Area) (at : IsLeft (m.seen before.stores.catalog) (m.seen after.stores.catalog) left)
+      → IsSure (m.seen before.stores.catalog) → CommitsNames m kind pairs before answer after → Left m before after answer base cs has (Names kind pairs) left at
+  names_left kind pairs left at sure (inl (first, same, unasked)) = left_unmoved m before after answer base cs has (Names kind pairs) left at sure same
+  names_left kind pairs left at sure (inr (changes, asked, ends)) =
+      left_by_end m before after answer base cs has (Names kind pairs) left at changes asked ends

@@ -31,8 +31,8 @@ use Rattle.feed_app.specs.Spelled.{HasCatalog, StaysSpelled}
 use Rattle.feed_app.specs.declared.answer.Answer.{Answer}
 use Rattle.feed_app.specs.declared.answer.Answer.TheVariants.{Reply}
 use Rattle.app_laws.specs.Feeds.{Areas, Cursors, Hold, HoldsFeed, IsSoundFeed, Reach}
-use Rattle.app_laws.specs.Histories.{Becomes, Crashed, Ended, Fate, IsEndedWith, IsLeft, IsLeftBy, IsWithCommit, PutsCatalog}
-use Rattle.app_laws.proofs.Growth.{names_made, publish_made}
+use Rattle.app_laws.specs.Histories.{Becomes, Crashed, Ended, Fate, IsEndedWith, IsLeft, IsLeftBy, IsWithCommit, MakesCatalog}
+use Rattle.app_laws.proofs.Growth.{names_left, names_made, publish_left, publish_made}
 use Rattle.app_laws.proofs.JobRounds.{job_kept, unmoved}
 use Rattle.app_laws.proofs.Stores.{at_moment, cursor_opens, hive_still, job_changes_own, job_opens, keeps_hive, still_held, still_left, untouched_left}
 
@@ -244,11 +244,12 @@ module _ {B : Type 0} (m : Members B) (sure : (store : B) → IsSure (m.seen sto
         → IsLeft (m.seen before.stores.catalog) (m.seen after.stores.catalog) (new area.Catalog)
     by_touch touch is left = subst (λ (t : Touch). IsLeftBy m t before.stores.catalog after.stores.catalog (new area.Catalog)) is left
 
-    catalog_left : (command : Command) → (PutsCatalog (Some command) → ⊥) → IsDone m (meaning m command) before answer after
+    catalog_left : (command : Command) → (MakesCatalog (Some command) → ⊥) → IsDone m (meaning m command) before answer after
         → IsLeftBy m (meaning m command).reach.catalog before.stores.catalog after.stores.catalog (new area.Catalog) → CatalogLeft command
     catalog_left (Init other) not done left = absurd (not tt)
-    catalog_left Publish not done left = absurd (not tt)
-    catalog_left (Names kind pairs) not done left = absurd (not tt)
+    catalog_left Publish not done left = publish_left m before after answer base cs has (new area.Catalog) left (sure before.stores.catalog) done.acts
+    catalog_left (Names kind pairs) not done left =
+        names_left m before after answer base cs has kind pairs (new area.Catalog) left (sure before.stores.catalog) done.acts
     catalog_left (Job hive) not done left =
         (cs, feed.lawful, left_open (by_touch (job_reach hive).catalog (job_opens hive) left) (stays_open (job_reach hive).catalog (job_opens hive) done.keeps.catalog), refl)
     catalog_left (Cursor hive) not done left =
@@ -261,7 +262,7 @@ module _ {B : Type 0} (m : Members B) (sure : (store : B) → IsSure (m.seen sto
     abbrev IsLeftOf : Option Command → Type 0
     IsLeftOf asked = (name : AreaName) → IsLeftBy m (touch_of (reach_of m asked) name) (area_of before.stores name) (area_of after.stores name) (new name)
 
-    left_some : (command : Command) → (PutsCatalog (Some command) → ⊥) → IsDone m (meaning m command) before answer after → IsLeftOf (Some command)
+    left_some : (command : Command) → (MakesCatalog (Some command) → ⊥) → IsDone m (meaning m command) before answer after → IsLeftOf (Some command)
         → FeedLeft (Some command)
     left_some command not done left =
         let catalog = catalog_left command not done (left area.Catalog) in
@@ -275,7 +276,7 @@ module _ {B : Type 0} (m : Members B) (sure : (store : B) → IsSure (m.seen sto
         } in
         (catalog.0, to, sound, catalog.3, (λ hive. (hives hive).1))
 
-    pub feed_left : (asked : Option Command) → (PutsCatalog asked → ⊥) → Does m asked before answer after → IsLeftOf asked → FeedLeft asked
+    pub feed_left : (asked : Option Command) → (MakesCatalog asked → ⊥) → Does m asked before answer after → IsLeftOf asked → FeedLeft asked
     feed_left None not does left = (
       cs,
       at,

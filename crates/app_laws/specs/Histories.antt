@@ -38,12 +38,10 @@ IsLeftBy m Asks old new left = (m.seen old).held ≡ Some left
 IsLeftBy m Opens old new left = IsLeft (m.seen old) (m.seen new) left
 IsLeftBy m Changes old new left = IsLeft (m.seen old) (m.seen new) left
 
--- it is a command that puts to the catalog's area: of its crashes nothing is said here
-abbrev pub PutsCatalog : Option Command → Type 0
-PutsCatalog (Some (Init base)) = ⊤
-PutsCatalog (Some Publish) = ⊤
-PutsCatalog (Some (Names kind pairs)) = ⊤
-PutsCatalog _ = ⊥
+-- it is the command that makes a catalog: of its crashes nothing is said here
+abbrev pub MakesCatalog : Option Command → Type 0
+MakesCatalog (Some (Init base)) = ⊤
+MakesCatalog _ = ⊥
 
 -- the step's command was called over these areas, with that input
 pub record IsCalled {B I O C : Type 0} (b : Bounds B I O C) (step : Step) (old : Areas) (before : Outside B I O C) : Type 0 where
@@ -55,7 +53,7 @@ abbrev pub LeadsTo : {B I O C : Type 0} → Bounds B I O C → Step → Fate →
 LeadsTo {B} {I} {O} {C} b step (Ended status) old new = (before after : Outside B I O C) × IsCalled b step old before
     × RunsCommand b step.words before status after × Hold b.blobs after.stores new
 LeadsTo {B} {I} {O} {C} b step Crashed old new = (before after : Outside B I O C) × (status : ℕ) × IsCalled b step old before
-    × RunsCommand b step.words before status after × (PutsCatalog (command_of step.words) → ⊥)
+    × RunsCommand b step.words before status after × (MakesCatalog (command_of step.words) → ⊥)
     × ((name : AreaName) → IsLeftBy b.blobs (touch_of (reach_of b.blobs (command_of step.words)) name) (area_of before.stores name) (area_of after.stores name) (new name))
 
 -- the steps lead there, one after the other

@@ -44,6 +44,10 @@ use Rattle.catalog_core.proofs.Frames.{known_store, ready_keeps, still_open}
 pub taken : (cs : Catalog) (changes : List Change) (now : ℕ) → refusal cs changes ≡ None → MayBeCommitted cs changes now
 taken cs changes now none = ap (answer_for (made cs changes now)) none
 
+pub lawful_with : (cs : Catalog) (changes : List Change) (now : ℕ) → IsCatalog cs → AreChangeValues changes → now ≤ 3_155_378_975_999_999_999 → MayBeCommitted cs changes now
+    → IsCatalog (with_made cs changes now)
+lawful_with cs changes now whole values moment is = stays_catalog cs changes now (made cs changes now) (record { whole = whole; values = values; moment = moment; taken = is })
+
 pub whole_with : (cs : Catalog) (changes : List Change) (now : ℕ) → IsCatalog cs → AreChangeValues changes → now ≤ 3_155_378_975_999_999_999 → refusal cs changes ≡ None → IsCatalog (with_made cs changes now)
 whole_with cs changes now whole values moment none =
     stays_catalog cs changes now (made cs changes now) (record { whole = whole; values = values; moment = moment; taken = taken cs changes now none })

@@ -10,7 +10,7 @@ ghost use Rattle.catalog_doc.specs.Spelled.{SpellsCatalog};
 ghost use Rattle.catalog_rows.specs.Reasons.{misshapen};
 ghost use Rattle.commit_plan.specs.Lookups.{IfDamagedCommit, IsLastDamaged};
 ghost use Rattle.commit_plan.specs.Planned.{IsPlanOf};
-ghost use Rattle.catalog_core.specs.Committing.{Commits, PutsCommit, RunsCommit, RunsOnto, RunsPuts, SettlesIf, SettlesUnless, WithOrWithout};
+ghost use Rattle.catalog_core.specs.Committing.{Commits, MayBeCommitted, PutsCommit, RunsCommit, RunsOnto, RunsPuts, SettlesIf, SettlesUnless, WithOrWithout, with_made};
 ghost use Rattle.catalog_core.specs.Opened.{IsOpenFor, IsReady, IsUnsettled};
 
 use crate::catalog::Catalog;
@@ -103,6 +103,9 @@ impl<B: Blobs> Catalog<B> {
         ensures moments { (cs : List Stored) → IsOpenFor self.old (B.seen self.old.area) cs
             → LeavesOnly (B.seen self.old.area) (B.seen self.new.area) (λ left. WithOrWithout cs changes.now now (SpellsCatalog left self.old.base)) }
 
+        // What the verdict takes makes a catalog, also where a crash leaves it.
+        ensures lawful { (cs : List Stored) → IsCatalog cs → MayBeCommitted cs changes.now now → IsCatalog (with_made cs changes.now now) }
+
         // Of every area.
         ensures counted { CountsFault (B.seen self.old.area).faults (B.seen self.new.area).faults (IsErrOf result CommitErr.Fault) }
         ensures damaged { (m now : Area) → (B.seen self.old.area).held ≡ Some m → (B.seen self.new.area).held ≡ Some now
@@ -110,11 +113,14 @@ impl<B: Blobs> Catalog<B> {
         ensures settled { SettlesUnless (misshapen changes.now) self.old.settled self.new.settled result }
         ensures base { self.new.base ≡ self.old.base }
     {
-        if let Some(error) = shape_refusal(changes.as_slice()) {
+        let list = changes.as_slice();
+        see_changes(list);
+        see_moment(now);
+        if let Some(error) = shape_refusal(list) {
             return Err(error);
         }
         match self.settle(alloc) {
-            Ok(()) => self.commit_settled(alloc, changes.as_slice(), now),
+            Ok(()) => self.commit_settled(alloc, list, now),
             Err(error) => Err(commit_err_for(error)),
         }
     }

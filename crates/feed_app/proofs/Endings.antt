@@ -6,6 +6,7 @@ use Rattle.blob_store.specs.Plans.{Makes}
 use Rattle.blob_store.specs.Seen.{Seen}
 use Rattle.blob_store.proofs.Moments.{weaker}
 use Rattle.pkg_meta.specs.Catalog.{Catalog}
+use Rattle.catalog_doc.specs.Catalogs.{IsCatalog}
 use Rattle.catalog_doc.specs.Spelled.{SpellsCatalog}
 use Rattle.catalog_doc.specs.Verdict.{verdict}
 use Rattle.catalog_doc.specs.declared.change.Change.{Change}
@@ -101,8 +102,9 @@ pub commits_behind : {B : Type 0} (s now after : Seen) (o n : Opened B) (changes
     → ((cs : Catalog) → IsOpenFor o now cs → LeavesOnly now after (λ left. WithOrWithout cs changes moment (SpellsCatalog left o.base)))
     → o.settled ≡ true → ForOpenings s (λ base cs plan. Makes plan s now)
     → ((cs : Catalog) → IsOpenFor o now cs → RunsOnto o cs changes moment now after r)
+    → ((cs : Catalog) → IsCatalog cs → MayBeCommitted cs changes moment → IsCatalog (with_made cs changes moment))
     → CommitsAt changes moment s after r
-commits_behind s now after o n changes moment r first over same commits moments settled opens runs = record {
+commits_behind s now after o n changes moment r first over same commits moments settled opens runs lawful = record {
   calls = calls_behind s now after o changes moment r over settled opens runs;
   commits = λ base cs has.
       let at = over base cs has in
@@ -115,6 +117,7 @@ commits_behind s now after o n changes moment r first over same commits moments 
       (weaker s now (λ left. SpellsCatalog left base cs) (λ left. WithOrWithout cs changes moment (SpellsCatalog left base)) (first.spelled base cs has).1
       (λ left here. inl here))
       (subst (λ (x : List ℕ). LeavesOnly now after (λ left. WithOrWithout cs changes moment (SpellsCatalog left x))) at.0 (moments cs at.1));
+  lawful = λ base cs has. lawful cs has.lawful;
 }
 
 -- a commit that wasn't refused

@@ -55,6 +55,8 @@ pub record CommitsAt (changes : List Change) (now : ℕ) (old new : Seen) (resul
   pub commits : ForSpelled old (λ base cs. Commits cs changes now result (HasCatalog new base))
   pub moments : ForSpelled old (λ base cs. LeavesOnly old new (λ left. WithOrWithout cs changes now (SpellsCatalog left base)))
   pub calls : ForOpenings old (λ base cs plan. RunsCommit plan base cs changes now old new result)
+  -- with the commit that the verdict takes it is a lawful one
+  pub lawful : ForSpelled old (λ base cs. MayBeCommitted cs changes now → IsCatalog (with_made cs changes now))
 
 -- the catalog that was spelled is spelled with one commit behind the others, which the verdict took
 abbrev pub HasCommit : Seen → Seen → Type 0

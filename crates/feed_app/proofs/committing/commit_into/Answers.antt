@@ -29,7 +29,7 @@ returns-in-Ok-commit-clause-ends g c =
       refl,
       commits_behind s now _ c.in-Ok.catalog c.commit.new.self c.args.changes.now c.moment-now.result
           (Ok c.in-Ok-commit.done) spelled opened c.commit.ensures.base c.in-Ok-commit.ensures.commits c.commit.ensures.moments
-          c.in-Ok.ensures.settled c.in-Ok.ensures.runs c.in-Ok-commit.ensures.runs,
+          c.in-Ok.ensures.settled c.in-Ok.ensures.runs c.in-Ok-commit.ensures.runs c.commit.ensures.lawful,
     ))
 
 pub returns-in-Err-commit-clause-ends : goal.returns-in-Err-commit-clause-ends
@@ -46,5 +46,5 @@ returns-in-Err-commit-clause-ends g c =
       c.of_commit.ensures,
       commits_behind s now _ c.in-Ok.catalog c.commit.new.self c.args.changes.now c.moment-now.result
           (Err c.in-Err-commit.error) spelled opened c.commit.ensures.base c.in-Err-commit.ensures.commits c.commit.ensures.moments
-          c.in-Ok.ensures.settled c.in-Ok.ensures.runs c.in-Err-commit.ensures.runs,
+          c.in-Ok.ensures.settled c.in-Ok.ensures.runs c.in-Err-commit.ensures.runs c.commit.ensures.lawful,
     ))
