@@ -91,6 +91,14 @@ returns-in-Err-clause-settled g c =
     subst (λ (found : Option CommitErr). SettlesUnless found c.args.self.now.settled c.settle.new.self.settled (Err c.commit_err_for.result)) (sym own)
     (subst (λ (error : CommitErr). SettlesIf c.settle.new.self.settled (Err error)) (sym c.commit_err_for.ensures) (unsettled_at c.settle.new.self.settled c.in-Err.error))
 
-pub returns-clause-lawful : goal.returns-clause-lawful
-returns-clause-lawful g c = λ cs whole taken.
+pub returns-in-Some-clause-lawful : goal.returns-in-Some-clause-lawful
+returns-in-Some-clause-lawful g c = λ cs whole taken.
+    lawful_with cs c.args.changes.now c.args.now whole (subst AreChangeValues c.as_slice-list.ensures c.see_changes.ensures) c.see_moment.ensures taken
+
+pub returns-in-Ok-clause-lawful : goal.returns-in-Ok-clause-lawful
+returns-in-Ok-clause-lawful g c = λ cs whole taken.
+    lawful_with cs c.args.changes.now c.args.now whole (subst AreChangeValues c.as_slice-list.ensures c.see_changes.ensures) c.see_moment.ensures taken
+
+pub returns-in-Err-clause-lawful : goal.returns-in-Err-clause-lawful
+returns-in-Err-clause-lawful g c = λ cs whole taken.
     lawful_with cs c.args.changes.now c.args.now whole (subst AreChangeValues c.as_slice-list.ensures c.see_changes.ensures) c.see_moment.ensures taken
