@@ -27,8 +27,8 @@ use Rattle.feed_app.specs.Writes.{HasMore}
 use Rattle.feed_app.specs.declared.answer.Answer.{Answer}
 use Rattle.feed_app.specs.declared.answer.Answer.TheVariants.{Reply}
 use Rattle.feed_app.specs.declared.hives.ServedHive.{ServedHive}
-use Rattle.app_laws.specs.Feeds.{Areas, Cursors, Hold, HoldsFeed, HoldsHive, IsSoundFeed, Reach}
-use Rattle.app_laws.specs.Histories.{Becomes, Crashed, Ended, Fate, Grows, Lead, LeadsTo, Step}
+use Rattle.app_laws.specs.Feeds.{Areas, Cursors, Hold, HoldsFeed, HoldsHive, IsSoundFeed, NoneBehind}
+use Rattle.app_laws.specs.Histories.{Becomes, Crashed, Ended, Fate, Grows, Lead, StepLeads, Step}
 use Rattle.app_laws.specs.Scratch.{from_scratch}
 use Rattle.app_laws.proofs.Fates.{get_found}
 use Rattle.app_laws.proofs.HiveLaws.{laws_of}
@@ -53,7 +53,7 @@ module _ {B I O C : Type 0} (b : Bounds B I O C) (sure : (store : B) → IsSure 
   module _ (words : List (List ℕ)) (before after : Outside B I O C) (status : ℕ) (run : RunsCommand b words before status after) where
     pub command_kept : (base : List ℕ) (cs : Catalog) (at : Cursors) → HoldsFeed b.blobs before.stores base cs at
         → (ds : Catalog) × (to : Cursors) × HoldsFeed b.blobs after.stores base ds to
-        × Becomes (command_of words) (input_of b.source before.input).told (Ended status) cs ds × Reach at to
+        × Becomes (command_of words) (input_of b.source before.input).told (Ended status) cs ds × NoneBehind at to
     command_kept base cs at holds =
         feed_ended b.blobs sure (sight b (base_of words) before) (sight b (base_of words) after) run.answer base cs at holds.0 holds.1 holds.2 status
         (zero_of b words before after status run) (three_of b words before after status run)
@@ -82,8 +82,8 @@ module _ {B I O C : Type 0} (b : Bounds B I O C) (sure : (store : B) → IsSure 
         } in
         (first_areas index, first_hold index first.1 hives, sound)
 
-  leads : (step : Step) (fate : Fate) (old new : Areas) (base : List ℕ) (cs : Catalog) (at : Cursors) → LeadsTo b step fate old new → IsSoundFeed base cs at old
-      → (ds : Catalog) × (to : Cursors) × IsSoundFeed base ds to new × Becomes (command_of step.words) step.input fate cs ds × Reach at to
+  leads : (step : Step) (fate : Fate) (old new : Areas) (base : List ℕ) (cs : Catalog) (at : Cursors) → StepLeads b step fate old new → IsSoundFeed base cs at old
+      → (ds : Catalog) × (to : Cursors) × IsSoundFeed base ds to new × Becomes (command_of step.words) step.input fate cs ds × NoneBehind at to
   leads step (Ended status) old new base cs at (before, after, called, run, hold) feed =
       let kept = command_kept step.words before after status run base cs at (old, called.stores, feed) in (
         kept.0,
@@ -103,7 +103,7 @@ module _ {B I O C : Type 0} (b : Bounds B I O C) (sure : (store : B) → IsSure 
       )
 
   pub lead : (steps : List Step) (old new : Areas) (base : List ℕ) (cs : Catalog) (at : Cursors) → Lead b steps old new → IsSoundFeed base cs at old
-      → (ds : Catalog) × (to : Cursors) × IsSoundFeed base ds to new × Grows steps cs ds × Reach at to
+      → (ds : Catalog) × (to : Cursors) × IsSoundFeed base ds to new × Grows steps cs ds × NoneBehind at to
   lead [] old new base cs at same feed = (cs, at, same_feed base cs at old new (λ name. ap Some (sym (same name))) feed, refl, λ hive. omega arith)
   lead (step ∷ steps) old new base cs at (mid, first, rest) feed =
       let one = leads step step.fate old mid base cs at first feed in

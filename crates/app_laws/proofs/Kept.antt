@@ -30,7 +30,7 @@ use Rattle.feed_app.specs.Outside.{Members, Sight, area_of, held}
 use Rattle.feed_app.specs.Spelled.{HasCatalog, StaysSpelled}
 use Rattle.feed_app.specs.declared.answer.Answer.{Answer}
 use Rattle.feed_app.specs.declared.answer.Answer.TheVariants.{Reply}
-use Rattle.app_laws.specs.Feeds.{Areas, Cursors, Hold, HoldsFeed, IsSoundFeed, Reach}
+use Rattle.app_laws.specs.Feeds.{Areas, Cursors, Hold, HoldsFeed, IsSoundFeed, NoneBehind}
 use Rattle.app_laws.specs.Histories.{Becomes, Crashed, Ended, Fate, IsEndedWith, IsLeft, IsLeftBy, IsWithCommit, MakesCatalog}
 use Rattle.app_laws.proofs.Growth.{names_left, names_made, publish_left, publish_made}
 use Rattle.app_laws.proofs.JobRounds.{job_kept, unmoved}
@@ -199,7 +199,7 @@ module _ {B : Type 0} (m : Members B) (sure : (store : B) → IsSure (m.seen sto
 
     abbrev FeedAfter : Option Command → Type 0
     FeedAfter asked = (ds : Catalog) × (to : Cursors) × HoldsFeed m after.stores base ds to
-        × Becomes asked before.input.told (Ended status) cs ds × Reach at to
+        × Becomes asked before.input.told (Ended status) cs ds × NoneBehind at to
 
     holds_together : (a : Area) (h : HiveName → Area) → held m after.stores.catalog ≡ Some a
         → ((hive : HiveName) → held m (new_of hive) ≡ Some (h hive)) → Hold m after.stores (together a h)
@@ -257,7 +257,7 @@ module _ {B : Type 0} (m : Members B) (sure : (store : B) → IsSure (m.seen sto
     catalog_left (Get path) not done left = (cs, feed.lawful, left_open left (stays_open Opens refl done.keeps.catalog), refl)
 
     abbrev FeedLeft : Option Command → Type 0
-    FeedLeft asked = (ds : Catalog) × (to : Cursors) × IsSoundFeed base ds to new × Becomes asked before.input.told Crashed cs ds × Reach at to
+    FeedLeft asked = (ds : Catalog) × (to : Cursors) × IsSoundFeed base ds to new × Becomes asked before.input.told Crashed cs ds × NoneBehind at to
 
     abbrev IsLeftOf : Option Command → Type 0
     IsLeftOf asked = (name : AreaName) → IsLeftBy m (touch_of (reach_of m asked) name) (area_of before.stores name) (area_of after.stores name) (new name)

@@ -33,8 +33,8 @@ abbrev pub Cursors : Type 0
 Cursors = HiveName → ℕ
 
 -- no cursor is behind
-abbrev pub Reach : Cursors → Cursors → Type 0
-Reach old new = (hive : HiveName) → old hive ≤ new hive
+abbrev pub NoneBehind : Cursors → Cursors → Type 0
+NoneBehind old new = (hive : HiveName) → old hive ≤ new hive
 
 -- A feed is sound: its catalog's area spells a catalog below the base address, and each hive's area is that of a sound hive over it, whose
 -- cursor stands there.

@@ -49,17 +49,17 @@ pub record IsCalled {B I O C : Type 0} (b : Bounds B I O C) (step : Step) (old :
   pub input : (input_of b.source before.input).told ≡ step.input
 
 -- The step leads from these areas to those: its call ended with the stores telling them, or a crash at some moment of the call left them.
-abbrev pub LeadsTo : {B I O C : Type 0} → Bounds B I O C → Step → Fate → Areas → Areas → Type 0
-LeadsTo {B} {I} {O} {C} b step (Ended status) old new = (before after : Outside B I O C) × IsCalled b step old before
+abbrev pub StepLeads : {B I O C : Type 0} → Bounds B I O C → Step → Fate → Areas → Areas → Type 0
+StepLeads {B} {I} {O} {C} b step (Ended status) old new = (before after : Outside B I O C) × IsCalled b step old before
     × RunsCommand b step.words before status after × Hold b.blobs after.stores new
-LeadsTo {B} {I} {O} {C} b step Crashed old new = (before after : Outside B I O C) × (status : ℕ) × IsCalled b step old before
+StepLeads {B} {I} {O} {C} b step Crashed old new = (before after : Outside B I O C) × (status : ℕ) × IsCalled b step old before
     × RunsCommand b step.words before status after × (MakesCatalog (command_of step.words) → ⊥)
     × ((name : AreaName) → IsLeftBy b.blobs (touch_of (reach_of b.blobs (command_of step.words)) name) (area_of before.stores name) (area_of after.stores name) (new name))
 
 -- the steps lead there, one after the other
 abbrev pub Lead : {B I O C : Type 0} → Bounds B I O C → List Step → Areas → Areas → Type 0
 Lead b [] old new = (name : AreaName) → new name ≡ old name
-Lead b (step ∷ steps) old new = (mid : Areas) × LeadsTo b step step.fate old mid × Lead b steps mid new
+Lead b (step ∷ steps) old new = (mid : Areas) × StepLeads b step step.fate old mid × Lead b steps mid new
 
 -- a command with this input asks for these changes
 abbrev pub AsksChanges : Command → Option (List ℕ) → List Change → Type 0

@@ -9,7 +9,7 @@ ghost use Rattle.feed_app.specs.Runs.{ForRuns};
 ghost use Rattle.feed_app.specs.Targets.{IsHivePath};
 ghost use Rattle.feed_app.specs.Writes.{HasMore};
 ghost use Rattle.feed_app.specs.declared.hives.ServedHive.{ServedHive};
-ghost use Rattle.app_laws.specs.Feeds.{Areas, Cursors, Hold, HoldsFeed, IsSoundFeed, Reach};
+ghost use Rattle.app_laws.specs.Feeds.{Areas, Cursors, Hold, HoldsFeed, IsSoundFeed, NoneBehind};
 ghost use Rattle.app_laws.specs.Histories.{Becomes, Ended, Grows, Lead, Step};
 ghost use Rattle.app_laws.specs.Scratch.{from_scratch};
 
@@ -29,7 +29,7 @@ pub fn commands_keep_feeds<B: Blobs, I: Source, O: Sink, C: Clock>()
     ensures { let b = bounds B.Blobs I.Source O.Sink C.Clock in ForRuns b (λ words before status after. (base : List ℕ) (cs : Catalog) (at : Cursors)
         → HoldsFeed b.blobs before.stores base cs at
         → (ds : Catalog) × (to : Cursors) × HoldsFeed b.blobs after.stores base ds to
-        × Becomes (command_of words) (input_of b.source before.input).told (Ended status) cs ds × Reach at to) }
+        × Becomes (command_of words) (input_of b.source before.input).told (Ended status) cs ds × NoneBehind at to) }
 {}
 
 /// A sound feed is sound after any history, also where crashes stopped commands. Its catalog is the one it had with the commits that were
@@ -37,7 +37,7 @@ pub fn commands_keep_feeds<B: Blobs, I: Source, O: Sink, C: Clock>()
 pub fn feeds_stay_sound<B: Blobs, I: Source, O: Sink, C: Clock>()
     ensures { let b = bounds B.Blobs I.Source O.Sink C.Clock in (steps : List Step) (old new : Areas) (base : List ℕ) (cs : Catalog) (at : Cursors)
         → Lead b steps old new → IsSoundFeed base cs at old
-        → (ds : Catalog) × (to : Cursors) × IsSoundFeed base ds to new × Grows steps cs ds × Reach at to }
+        → (ds : Catalog) × (to : Cursors) × IsSoundFeed base ds to new × Grows steps cs ds × NoneBehind at to }
 {}
 
 /// A document of a hive that a `get` of status 0 gives, after any history of a sound feed, is the one that the hive makes of a prefix of the

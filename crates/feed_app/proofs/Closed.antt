@@ -27,7 +27,7 @@ use Rattle.admin_wire.specs.declared.area.AreaName.TheVariants as area
 use Rattle.feed_app.specs.Answers.{answer_status}
 use Rattle.feed_app.specs.Causes.{open_answer}
 use Rattle.feed_app.specs.Frame.{Explains, Reach, Touches}
-use Rattle.feed_app.specs.Openings.{IsOfStore, MayOpen, NotOpened, OpensNone, TellsBases}
+use Rattle.feed_app.specs.Openings.{IsOfStore, MayOpen, NotOpened, OpensNone, TellsOtherBase}
 use Rattle.feed_app.specs.Outside.{AreaRose, Members, Sight}
 use Rattle.feed_app.specs.Spelled.{HasCatalog}
 use Rattle.feed_app.specs.declared.answer.Answer.{Answer}
@@ -36,7 +36,7 @@ use Rattle.feed_app.specs.declared.answer.Answer.TheVariants.{Reply}
 -- why a catalog that was spelled wasn't opened
 why : (given : Option (List ℕ)) (e : OpenErr) (base : List ℕ) (same : Type 0) → IsRefusedOpening given base e
     → ((stored other : List ℕ) → e ≡ opening.BaseDiffers stored other → same)
-    → IsOfStore (open_answer e) ⊎ (TellsBases given base (open_answer e) × same)
+    → IsOfStore (open_answer e) ⊎ (TellsOtherBase given base (open_answer e) × same)
 why given opening.Fault base same is keeps = inl tt
 why given opening.Missing base same is keeps = absurd is
 why given (opening.Damaged name) base same is keeps = absurd is

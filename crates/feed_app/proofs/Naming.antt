@@ -7,7 +7,8 @@ use Rattle.admin_wire.specs.Bodies.{IsAsked}
 use Rattle.admin_wire.specs.declared.names.NameKind.{NameKind}
 use Rattle.catalog_doc.specs.declared.change.Change.{Change}
 use Rattle.admin_wire.specs.declared.line.Line.TheVariants as line
-use Rattle.feed_app.specs.Commands.{Pair, pairs_of, texts}
+use Rattle.feed_app.specs.Commands.{Pair, pairs_of}
+use Rattle.feed_words.specs.Words.{texts}
 use Rattle.feed_app.specs.Names.{AreAsked, IsFirstNotAsked, NotAsked, NotRead}
 use Rattle.feed_app.specs.declared.answer.Answer.{Answer}
 use Rattle.feed_app.specs.declared.answer.Answer.TheVariants.{Reply}

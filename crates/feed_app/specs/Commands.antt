@@ -1,13 +1,12 @@
 -- What a list of words means.
-use Rattle.std.specs.Prelude.{ℕ, List, [], ◌∷◌, Bool, true, false, codes, length, map, Option, Some, None, option_map, String, string_bytes, if◌then◌else◌, ◌==◌, ◌%◌, ⊤}
+use Rattle.std.specs.Prelude.{ℕ, List, [], ◌∷◌, Bool, true, false, codes, length, Option, Some, None, option_map, if◌then◌else◌, ◌==◌, ◌%◌, ⊤}
 use Rattle.std.specs.Option.{option_and_then}
 use Rattle.std.specs.Str.{bytes_eq}
-use Rattle.std.specs.declared.alloc.Global.{Global}
 use Rattle.admin_wire.specs.declared.names.NameKind.{NameKind}
 use Rattle.admin_wire.specs.declared.names.NameKind.TheVariants.{Unlist, Relist, Delete}
 use Rattle.fold_core.specs.declared.hive.HiveName.{HiveName}
 use Rattle.feed_routes.specs.Bases.{is_base_address}
-use Rattle.feed_words.specs.Words.{Given, given_in}
+use Rattle.feed_words.specs.Words.{Given, given_in, texts}
 use Rattle.feed_app.specs.Hives.{hive_by_word}
 use Rattle.feed_app.specs.declared.words.Command as code
 use Rattle.feed_app.specs.declared.words.Command.TheVariants as code_of
@@ -30,10 +29,6 @@ abbrev pub pairs_of : List (List ℕ) → List Pair
 pairs_of [] = []
 pairs_of (word ∷ []) = []
 pairs_of (id ∷ version ∷ words) = (id, version) ∷ pairs_of words
-
--- the words of the command line, as texts
-abbrev pub texts : List (String Global) → List (List ℕ)
-texts words = map string_bytes words
 
 -- it commits changes
 abbrev pub CommitsChanges : Command → Type 0

@@ -29,8 +29,8 @@ IsOfStore (Reply line.Memory) = ⊤
 IsOfStore _ = ⊥
 
 -- another base address than this one is given, and the answer tells both
-abbrev pub TellsBases : Option (List ℕ) → List ℕ → Answer → Type 0
-TellsBases given base answer = (other : List ℕ) × (given ≡ Some other) × (other ≢ base) × (answer ≡ Reply (line.Refused (refusal.Base base other)))
+abbrev pub TellsOtherBase : Option (List ℕ) → List ℕ → Answer → Type 0
+TellsOtherBase given base answer = (other : List ℕ) × (given ≡ Some other) × (other ≢ base) × (answer ≡ Reply (line.Refused (refusal.Base base other)))
 
 -- the base address that is given, if any, is that of each catalog that the area spells
 abbrev pub MayOpen : Option (List ℕ) → Seen → Type 0
@@ -41,4 +41,4 @@ MayOpen given s = ForSpelled s (λ base cs. IsAllowedBase given base)
 pub record NotOpened (given : Option (List ℕ)) (answer : Answer) (old new : Seen) : Type 0 where
   pub told : OpensNone answer old
   pub calls : StopsAsTold answer old new
-  pub why : ForSpelled old (λ base cs. IsOfStore answer ⊎ (TellsBases given base answer × (new.held ≡ old.held)))
+  pub why : ForSpelled old (λ base cs. IsOfStore answer ⊎ (TellsOtherBase given base answer × (new.held ≡ old.held)))

@@ -1,7 +1,8 @@
 // The commands `unlist`, `list` and `delete`.
 ghost use Rattle.std.specs.Prelude.{◌≡◌, ℕ, List, IfErr, IfOk, option_map};
 ghost use Rattle.admin_wire.specs.Bodies.{IsAsked};
-ghost use Rattle.feed_app.specs.Commands.{pairs_of, texts};
+ghost use Rattle.feed_app.specs.Commands.{pairs_of};
+ghost use Rattle.feed_words.specs.Words.{texts};
 ghost use Rattle.feed_app.specs.Frame.{IsDone};
 ghost use Rattle.feed_app.specs.Names.{AreAsked, NotAsked, NotRead, names_meaning};
 ghost use Rattle.feed_app.specs.Outside.{Stream, over};

@@ -1,7 +1,8 @@
 // The top call.
 ghost use Rattle.std.specs.Prelude.{◌≡◌, option_map};
 ghost use Rattle.feed_words.specs.Words.{given};
-ghost use Rattle.feed_app.specs.Commands.{asked, base_of, command_of, of_given, texts};
+ghost use Rattle.feed_app.specs.Commands.{asked, base_of, command_of, of_given};
+ghost use Rattle.feed_words.specs.Words.{texts};
 ghost use Rattle.feed_app.specs.Does.{Does, meaning, reach_of};
 ghost use Rattle.feed_app.specs.Frame.{IsDone, KeepsValue};
 ghost use Rattle.feed_app.specs.Outside.{bounds, input_of, output_of, outside, over};

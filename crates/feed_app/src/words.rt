@@ -2,7 +2,8 @@
 ghost use Rattle.std.specs.Prelude.{◌≡◌, ◌≢◌, ◌≤◌, ◌∷◌, [], ℕ, List, length, map, option_map, string_bytes, IfOk, IfSome, IfNone};
 ghost use Rattle.feed_words.specs.Words.{given};
 ghost use Rattle.feed_app.specs.Hives.{hive_by_word};
-ghost use Rattle.feed_app.specs.Commands.{Job, Cursor, init_with, is_init, may_give, name_kind, of_one_word, of_two_words, of_given, of_more_words, of_plain, asked, texts};
+ghost use Rattle.feed_app.specs.Commands.{Job, Cursor, init_with, is_init, may_give, name_kind, of_one_word, of_two_words, of_given, of_more_words, of_plain, asked};
+ghost use Rattle.feed_words.specs.Words.{texts};
 
 use crate::hives::hive_by_word;
 use admin_wire::NameKind;

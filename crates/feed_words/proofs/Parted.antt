@@ -6,7 +6,7 @@ use Rattle.std.specs.Str.{bytes_eq}
 use Rattle.std.proofs.Math.Seq.{take_all}
 use Rattle.std.proofs.lemmas.Slice.Eq.{bytes_eq-Decides}
 use Rattle.std.specs.declared.alloc.Global.{Global}
-use Rattle.feed_words.specs.Words.{begins_plain, given_by, given_in, is_option, joined, options_in, plain_in, texts}
+use Rattle.feed_words.specs.Words.{begins_plain, given_by, given_in, is_option, with_texts_joined, options_in, plain_in, texts}
 
 -- the first two words, where there are two
 pub two_words : (words : List (String Global)) (first second a b : String Global) (word value : List ℕ) → 2 ≤ length words → first ≡ get_or words 0 a
@@ -31,12 +31,12 @@ abbrev pub NotTwo : List (List ℕ) → Type 0
 NotTwo words = (value : List ℕ) (rest : List (List ℕ)) → words ≡ codes "--base" ∷ value ∷ rest → ⊥
 
 by_test : (test : Bool) (word value : List ℕ) (rest : List (List ℕ)) → test ≡ bytes_eq word (codes "--base") → NotTwo (word ∷ value ∷ rest)
-    → (if test then (codes "--base=" ++ value) ∷ joined rest else word ∷ joined (value ∷ rest)) ≡ word ∷ joined (value ∷ rest)
+    → (if test then (codes "--base=" ++ value) ∷ with_texts_joined rest else word ∷ with_texts_joined (value ∷ rest)) ≡ word ∷ with_texts_joined (value ∷ rest)
 by_test true word value rest is not_two =
     absurd (not_two value rest (ap (λ (w : List ℕ). w ∷ value ∷ rest) ((bytes_eq-Decides word (codes "--base")).0 (sym is))))
 by_test false word value rest is not_two = refl
 
-joined_one : (word : List ℕ) (behind : List (List ℕ)) → NotTwo (word ∷ behind) → joined (word ∷ behind) ≡ word ∷ joined behind
+joined_one : (word : List ℕ) (behind : List (List ℕ)) → NotTwo (word ∷ behind) → with_texts_joined (word ∷ behind) ≡ word ∷ with_texts_joined behind
 joined_one word [] not_two = refl
 joined_one word (value ∷ rest) not_two = by_test (bytes_eq word (codes "--base")) word value rest refl not_two
 
@@ -70,8 +70,8 @@ module _ (words rest behind options plain : List (String Global)) (word : String
   }
 
   module _ (text : List ℕ) (e : texts rest ≡ text ∷ texts behind) (not_two : NotTwo (texts rest)) (is : string_bytes word ≡ text) where
-    whole : joined (texts rest) ≡ text ∷ joined (texts behind)
-    whole = ap joined e ∙ joined_one text (texts behind) (subst NotTwo e not_two)
+    whole : with_texts_joined (texts rest) ≡ text ∷ with_texts_joined (texts behind)
+    whole = ap with_texts_joined e ∙ joined_one text (texts behind) (subst NotTwo e not_two)
 
     options_by : (test : Bool) → test ≡ is_option text → options_in (texts rest) ≡ (if test then text ∷ options_in (texts behind) else options_in (texts behind))
     options_by true test = ap (filter is_option) whole ∙ ap (λ (b : Bool). if b then text ∷ options_in (texts behind) else options_in (texts behind)) (sym test)

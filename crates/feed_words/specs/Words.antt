@@ -19,16 +19,16 @@ abbrev pub is_option : List ℕ → Bool
 is_option word = starts_with nat_eq word (codes "-")
 
 -- with each option that stands as two words as one; a last word `--base` stays
-abbrev pub joined : List (List ℕ) → List (List ℕ)
-joined [] = []
-joined (word ∷ []) = word ∷ []
-joined (word ∷ value ∷ words) = if bytes_eq word (codes "--base") then (codes "--base=" ++ value) ∷ joined words else word ∷ joined (value ∷ words)
+abbrev pub with_texts_joined : List (List ℕ) → List (List ℕ)
+with_texts_joined [] = []
+with_texts_joined (word ∷ []) = word ∷ []
+with_texts_joined (word ∷ value ∷ words) = if bytes_eq word (codes "--base") then (codes "--base=" ++ value) ∷ with_texts_joined words else word ∷ with_texts_joined (value ∷ words)
 
 abbrev pub options_in : List (List ℕ) → List (List ℕ)
-options_in words = filter is_option (joined words)
+options_in words = filter is_option (with_texts_joined words)
 
 abbrev pub plain_in : List (List ℕ) → List (List ℕ)
-plain_in words = filter (λ word. not (is_option word)) (joined words)
+plain_in words = filter (λ word. not (is_option word)) (with_texts_joined words)
 
 -- the text of an option, which is no other than `--base`
 abbrev pub value_of : List ℕ → Option (List ℕ)

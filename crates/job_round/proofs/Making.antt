@@ -22,7 +22,7 @@ use Rattle.fold_core.specs.declared.doc.Body.TheVariants.{Made, Staged as FromPu
 use Rattle.id_pass.specs.declared.call.Call.{Call}
 use Rattle.id_pass.specs.declared.call.Call.TheVariants.{Put, Remove}
 use Rattle.job_round.specs.Made.{AreMade, AreSomeMade, IsBody, IsMadeCall, RunsCalls}
-use Rattle.job_round.specs.Reads.{Reads, StopsReading, bodies_of, body_of}
+use Rattle.job_round.specs.Reads.{RunsReads, StopsReading, bodies_of, body_of}
 use Rattle.job_round.specs.Stops.{JobHaltsAt, RunsOne}
 use Rattle.job_round.specs.declared.stop.Stop.{Stop}
 use Rattle.job_round.specs.declared.stop.Stop.TheVariants.{CatalogFault}
@@ -119,7 +119,7 @@ module _ {B : Type 0} (o mid n : Opened B) (s t u : Seen) (old now new : Seen) (
     own = head_is left call is
 
     pub run_more : {A : Type 0} (x : A) → StaysOpen mid n t u (IsErrOf (well x) CatalogFault) → RunsCalls (IsOpenFor mid t) (call ∷ []) now new (well x)
-        → (mid.settled ≡ true → Reads (bodies_of (call ∷ [])) t u (well x)) → RunSoFar o n s u old new whole (drop 1 left)
+        → (mid.settled ≡ true → RunsReads (bodies_of (call ∷ [])) t u (well x)) → RunSoFar o n s u old new whole (drop 1 left)
     run_more x stays (more, these, runs) reads = record {
       stays = stays_next o mid n s t u tt went_well so_far.stays (stays_well mid n t u x went_well (quiet_ok tt) stays);
       done = so_far.done ++ call ∷ [];
@@ -133,7 +133,7 @@ module _ {B : Type 0} (o mid n : Opened B) (s t u : Seen) (old now new : Seen) (
     }
 
     pub run_unread : {A : Type 0} (stop : Stop) (r : Result A Stop) → r ≡ Err stop → (mid.settled ≡ true → StopsReading (bodies_of (call ∷ [])) stop t u) → o.settled ≡ true
-        → Reads (bodies_of whole) s u r
+        → RunsReads (bodies_of whole) s u r
     run_unread stop r told reads settled =
         let same : whole ≡ (so_far.done ++ call ∷ []) ++ drop 1 left = so_far.split ∙ ap (λ (l : List Call). so_far.done ++ l) own ∙ sym (append_assoc so_far.done (call ∷ []) (drop 1 left)) in
         let all : bodies_of whole ≡ (bodies_of so_far.done ++ bodies_of (call ∷ [])) ++ bodies_of (drop 1 left) =

@@ -19,7 +19,7 @@ use Rattle.id_pass.specs.declared.call.Call.{Call}
 use Rattle.job_round.specs.Ids.{key_of_id}
 use Rattle.job_round.specs.Made.{RunsCalls}
 use Rattle.job_round.specs.Plans.{IsWholePass, Pass, TakesUp, held_after, keys_in, pass_plan, passes_plan}
-use Rattle.job_round.specs.Reads.{IsNextToRead, IsToRead, PassesRead, Reads, ReadsPass, ReadsPasses, ReadsSome, ReadsTaking, StopsReading, bodies_of, leaf_reads, leaves_behind, own_rows, pass_reads, passes_reads}
+use Rattle.job_round.specs.Reads.{IsNextToRead, IsToRead, PassesRead, RunsReads, ReadsPass, ReadsPasses, ReadsSome, ReadsTaking, StopsReading, bodies_of, leaf_reads, leaves_behind, own_rows, pass_reads, passes_reads}
 use Rattle.job_round.specs.Rounds.{cursor_put}
 use Rattle.job_round.specs.States.{IsStoredState, at_in}
 use Rattle.job_round.specs.Stops.{IsOfHive}
@@ -49,7 +49,7 @@ module _ (f : Fold) (c target : ℕ) (rows : List Row) (key : List ℕ) where
 
     -- and then what publishes brought
     pub pass_read : {A : Type 0} (r : Result A Stop) (a b e s t u : Seen) → ((made : List StoreCall) → TakesUp f R c target a.held (planned made))
-        → Makes (Get (state_name key) ∷ []) a b → RunsCalls Q calls b e r → Makes (leaves_behind (at_in stored) (own_rows c rows key)) s t → Reads (bodies_of calls) t u r
+        → Makes (Get (state_name key) ∷ []) a b → RunsCalls Q calls b e r → Makes (leaves_behind (at_in stored) (own_rows c rows key)) s t → RunsReads (bodies_of calls) t u r
         → ReadsPass f R c target rows key a e s u r
     pass_read (Ok x) a b e s t u takes got (made, all, runs) leaves bodies = (
       planned made,

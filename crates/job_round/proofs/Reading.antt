@@ -1,4 +1,4 @@
--- Reads of the catalog's store, one behind the other, up to where a job stopped.
+-- RunsReads of the catalog's store, one behind the other, up to where a job stopped.
 use Rattle.std.proofs.Common.{◌≡◌, ◌<◌, ◌≤◌, ◌+◌, ◌⊎◌, ℕ, zero, suc, List, [], ◌∷◌, ◌++◌, length, take, drop, get_or, Bool, true, false, cond, Some, Ok, Err, IfErr, Result, inl, inr, ⊎_elim, Option, refl, sym, ◌∙◌, ap, ap₂, subst, append_assoc, append-nil, option_map, arith}
 use Rattle.std.proofs.lemmas.Bool.{lt-ltb, le-ltb}
 use Rattle.std.proofs.lemmas.Bool.Decides.{nat_tests}
@@ -26,7 +26,7 @@ use Rattle.catalog_opening.specs.declared.error.ReadErr.{ReadErr}
 use Rattle.catalog_opening.specs.declared.error.ReadErr.TheVariants as reading
 use Rattle.catalog_rows.specs.Kept.{Kept}
 use Rattle.catalog_core.specs.Opened.{IsUnsettled, Opened}
-use Rattle.job_round.specs.Reads.{AreKept, ReachesBlob, Reads, StopsReading, leaf_get, leaf_of, leaves_behind}
+use Rattle.job_round.specs.Reads.{AreKept, ReachesBlob, RunsReads, StopsReading, leaf_get, leaf_of, leaves_behind}
 use Rattle.job_round.specs.Stops.{IsOfHive, catalog_stop_of}
 use Rattle.job_round.specs.declared.stop.Stop.{Stop}
 use Rattle.job_round.specs.declared.stop.Stop.TheVariants.{CatalogFault, HiveFault, CatalogDamaged, HiveDamaged, Memory}
@@ -73,13 +73,13 @@ module _ (plan : List Act) (a b : Seen) (made : Makes plan a b) where
   reads_behind P (HiveDamaged name) cause = some_all plan a b made
   reads_behind P Memory cause = inr (some_all plan a b made)
 
-  pub reads_hive : {A : Type 0} (r : Result A Stop) → IfErr r (IsOfHive (λ n. ⊥)) → Reads plan a b r
+  pub reads_hive : {A : Type 0} (r : Result A Stop) → IfErr r (IsOfHive (λ n. ⊥)) → RunsReads plan a b r
   reads_hive (Ok x) cause = made
   reads_hive (Err stop) cause = reads_behind (λ n. ⊥) stop cause
 
 -- behind a `?`
-pub reads_told : {A : Type 0} (plan : List Act) (a b : Seen) (stop : Stop) (r : Result A Stop) → r ≡ Err stop → StopsReading plan stop a b → Reads plan a b r
-reads_told {A} plan a b stop r told halts = subst (λ (x : Result A Stop). Reads plan a b x) (sym told) halts
+pub reads_told : {A : Type 0} (plan : List Act) (a b : Seen) (stop : Stop) (r : Result A Stop) → r ≡ Err stop → StopsReading plan stop a b → RunsReads plan a b r
+reads_told {A} plan a b stop r told halts = subst (λ (x : Result A Stop). RunsReads plan a b x) (sym told) halts
 
 -- one get, made or not
 reaches_one : (name : List ℕ) (a b : Seen) → MakesSome (Get name ∷ []) a b → ReachesBlob name (Get name ∷ []) a b

@@ -28,7 +28,7 @@ use Rattle.job_round.specs.Answers.{IsLostInCatalog, IsLostInHive}
 use Rattle.job_round.specs.Cursors.{IsCursor, IsNoCursor}
 use Rattle.job_round.specs.Ids.{by_id, key_of_id, keys_of}
 use Rattle.job_round.specs.Plans.{AreTold, AreWholePasses, IsOfPasses, IsPartPass, Pass, held_after, keys_in, pass_plan, passes_plan}
-use Rattle.job_round.specs.Reads.{Reads, ReadsRound, ReadsSome, ReadsTaking, RoundRead, StopsReading}
+use Rattle.job_round.specs.Reads.{RunsReads, ReadsRound, ReadsSome, ReadsTaking, RoundRead, StopsReading}
 use Rattle.job_round.specs.Rounds.{IsEndStop, IsTask, RunsRound, RunsTaking, cursor_put}
 use Rattle.job_round.specs.Stops.{JobHaltsAt, IfDamaged, IsElse, IsOfHive, catalog_stop_of}
 use Rattle.job_round.specs.declared.stop.Stop.{Stop}
@@ -232,7 +232,7 @@ module _ {B : Type 0} (keeps : Keeps) (makes : MakesDocs) (o mid : Opened B) (s 
     end_lost n u (Err Memory) held cause = tt
 
 -- what a round read where there was nothing to take up
-pub idle_read : (f : Fold) (Q : Catalog → Type 0) (kept : List Row) (c : ℕ) (a e s t u : Seen) (r : Result RoundOut Stop) → IfOk r (λ out. out ≡ Idle c) → Makes [] s t → Reads [] t u r
+pub idle_read : (f : Fold) (Q : Catalog → Type 0) (kept : List Row) (c : ℕ) (a e s t u : Seen) (r : Result RoundOut Stop) → IfOk r (λ out. out ≡ Idle c) → Makes [] s t → RunsReads [] t u r
     → ReadsRound f Q kept a e s u r
 idle_read f Q kept c a e s t u (Ok (Idle n)) idle quiet read = makes_then [] [] s t u quiet read
 idle_read f Q kept c a e s t u (Ok (Done n)) idle quiet read = absurd (let no : ⊥ = cc in no)

@@ -30,7 +30,7 @@ use Rattle.job_round.specs.Ids.{is_row_of, key_of_id}
 use Rattle.job_round.specs.Items.{AreOf, is_behind, items_after, items_behind, placed_after}
 use Rattle.job_round.specs.Made.{RunsCalls}
 use Rattle.job_round.specs.Plans.{AreTold, IsStateLost, IsTold, Pass, PassesMade, RunsPass, TakesUp}
-use Rattle.job_round.specs.Reads.{AreKept, HaveOwnRows, PassesRead, Reads, ReadsPass, StopsReading, bodies_of, leaves_behind, own_rows}
+use Rattle.job_round.specs.Reads.{AreKept, HaveOwnRows, PassesRead, RunsReads, ReadsPass, StopsReading, bodies_of, leaves_behind, own_rows}
 use Rattle.job_round.specs.States.{IsNoState, IsStoredState, at_in}
 use Rattle.job_round.specs.Stops.{JobHaltsAt, IfDamaged, IsOfHive}
 use Rattle.job_round.specs.declared.ids.IdRows.{IdRows}
@@ -135,7 +135,7 @@ module _ {B : Type 0} (keeps : Keeps) (makes : MakesDocs) (o : Opened B) (s : Se
         (told_takes a found []).items (λ made. (told_takes a found made).planned) got ran)
 
     pub told_read : {A : Type 0} (kept : List Row) (own : id.rows ≡ own_rows c kept id.key) (r : Result A Stop) (a b e u : Seen) → IfSome a.held (λ m. IsStoredState key target (get m (state_name key)) stored)
-        → Makes (Get (state_name key) ∷ []) a b → RunsCalls (IsOpenFor mid t) plan b e r → Makes (leaves_behind at rows) s t → Reads (bodies_of plan) t u r
+        → Makes (Get (state_name key) ∷ []) a b → RunsCalls (IsOpenFor mid t) plan b e r → Makes (leaves_behind at rows) s t → RunsReads (bodies_of plan) t u r
         → ReadsPass (fold_of keeps makes o.base) Q c target kept id.key a e s u r
     told_read kept own r a b e u found got ran leaves bodies =
         subst (λ (k : List ℕ). ReadsPass (fold_of keeps makes o.base) Q c target kept k a e s u r) named

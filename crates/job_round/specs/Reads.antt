@@ -84,9 +84,9 @@ StopsReading plan (HiveDamaged name) old new = MakesSome plan old new
 StopsReading plan Memory old new = StopsAt plan blob.Memory old new ⊎ MakesSome plan old new
 
 -- The reads were made as the result tells.
-abbrev pub Reads : {A : Type 0} → List Act → Seen → Seen → Result A Stop → Type 0
-Reads plan old new (Ok a) = Makes plan old new
-Reads plan old new (Err stop) = StopsReading plan stop old new
+abbrev pub RunsReads : {A : Type 0} → List Act → Seen → Seen → Result A Stop → Type 0
+RunsReads plan old new (Ok a) = Makes plan old new
+RunsReads plan old new (Err stop) = StopsReading plan stop old new
 
 -- each of these rows is one of those that are kept
 abbrev pub AreKept : List Row → List Row → Type 0

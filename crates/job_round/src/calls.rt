@@ -9,7 +9,7 @@ ghost use Rattle.catalog_core.specs.Opened.{IsOpenFor};
 ghost use Rattle.fold_core.specs.declared.doc.Body.TheVariants.{Staged as FromPublish};
 ghost use Rattle.id_pass.specs.declared.call.Call.TheVariants as planned;
 ghost use Rattle.job_round.specs.Made.{RunsCalls};
-ghost use Rattle.job_round.specs.Reads.{Reads, bodies_of};
+ghost use Rattle.job_round.specs.Reads.{RunsReads, bodies_of};
 ghost use Rattle.job_round.specs.Stops.{IfDamaged, IsOfHive, RunsOne, RunsTo};
 ghost use Rattle.job_round.specs.Items.{IsStagedAbsent};
 
@@ -74,7 +74,7 @@ fn put_staged<B: Blobs>(
     ensures runs { RunsCalls (IsOpenFor catalog.old (B.seen catalog.old.area)) (planned.Put name.now (FromPublish number place nuspec) ∷ [])
         (B.seen area.old) (B.seen area.new) result }
     ensures reads { catalog.old.settled ≡ true
-        → Reads (Get (staged_name number place nuspec) ∷ []) (B.seen catalog.old.area) (B.seen catalog.new.area) result }
+        → RunsReads (Get (staged_name number place nuspec) ∷ []) (B.seen catalog.old.area) (B.seen catalog.new.area) result }
     ensures cause { catalog.old.settled ≡ true → IfErr result (IfDamaged (IsStagedAbsent (B.seen catalog.new.area).held) (λ n. ⊥)) }
 {
     match catalog.staged(alloc, number, place, nuspec) {
@@ -92,7 +92,7 @@ fn run_call<B: Blobs>(
 ) -> Result<(), Stop>
     ensures stays { StaysOpen catalog.old catalog.new (B.seen catalog.old.area) (B.seen catalog.new.area) (IsErrOf result Stop.CatalogFault) }
     ensures runs { RunsCalls (IsOpenFor catalog.old (B.seen catalog.old.area)) (call.now ∷ []) (B.seen area.old) (B.seen area.new) result }
-    ensures reads { catalog.old.settled ≡ true → Reads (bodies_of (call.now ∷ [])) (B.seen catalog.old.area) (B.seen catalog.new.area) result }
+    ensures reads { catalog.old.settled ≡ true → RunsReads (bodies_of (call.now ∷ [])) (B.seen catalog.old.area) (B.seen catalog.new.area) result }
     ensures cause { catalog.old.settled ≡ true → IfErr result (IfDamaged (IsStagedAbsent (B.seen catalog.new.area).held) (λ n. ⊥)) }
 {
     match call {
@@ -125,7 +125,7 @@ pub(crate) fn run_plan<B: Blobs>(
 ) -> Result<(), Stop>
     ensures stays { StaysOpen catalog.old catalog.new (B.seen catalog.old.area) (B.seen catalog.new.area) (IsErrOf result Stop.CatalogFault) }
     ensures runs { RunsCalls (IsOpenFor catalog.old (B.seen catalog.old.area)) plan (B.seen area.old) (B.seen area.new) result }
-    ensures reads { catalog.old.settled ≡ true → Reads (bodies_of plan) (B.seen catalog.old.area) (B.seen catalog.new.area) result }
+    ensures reads { catalog.old.settled ≡ true → RunsReads (bodies_of plan) (B.seen catalog.old.area) (B.seen catalog.new.area) result }
     ensures cause { catalog.old.settled ≡ true → IfErr result (IfDamaged (IsStagedAbsent (B.seen catalog.new.area).held) (λ n. ⊥)) }
 {
     let mut plan = plan;

@@ -7,7 +7,7 @@ ghost use Rattle.catalog_core.specs.Opened.{IsOpenFor};
 ghost use Rattle.id_pass.specs.Placing.{all_as_placed};
 ghost use Rattle.catalog_rows.specs.Last.{row_of};
 ghost use Rattle.job_round.specs.Items.{AreOf, IsLostBlob, is_behind};
-ghost use Rattle.job_round.specs.Reads.{AreKept, Reads, leaf_of, leaves_behind};
+ghost use Rattle.job_round.specs.Reads.{AreKept, RunsReads, leaf_of, leaves_behind};
 ghost use Rattle.job_round.specs.Stops.{IsElse, IsStopOfCatalog};
 
 use crate::stop::{Stop, catalog_stop};
@@ -34,7 +34,7 @@ fn item_of<B: Blobs>(alloc: Global, catalog: &mut Catalog<B>, row: &Row) -> Resu
         → IfOk result (λ it. it ≡ x.what) }
     ensures other { IfErr result IsElse }
     ensures reads { catalog.old.settled ≡ true → Contains catalog.old.kept.rows row.now
-        → Reads (leaf_of row.now) (B.seen catalog.old.area) (B.seen catalog.new.area) result }
+        → RunsReads (leaf_of row.now) (B.seen catalog.old.area) (B.seen catalog.new.area) result }
     ensures cause { catalog.old.settled ≡ true → Contains catalog.old.kept.rows row.now
         → IfErr result (IsStopOfCatalog (IsLostBlob catalog.new (B.seen catalog.new.area))) }
 {
@@ -60,7 +60,7 @@ pub(crate) fn items_behind<B: Blobs>(
         → IfOk result (λ items. all_as_placed items ≡ filter (is_behind at) xs) }
     ensures other { IfErr result IsElse }
     ensures reads { catalog.old.settled ≡ true → AreKept catalog.old.kept.rows rows.now
-        → Reads (leaves_behind at rows.now) (B.seen catalog.old.area) (B.seen catalog.new.area) result }
+        → RunsReads (leaves_behind at rows.now) (B.seen catalog.old.area) (B.seen catalog.new.area) result }
     ensures cause { catalog.old.settled ≡ true → AreKept catalog.old.kept.rows rows.now
         → IfErr result (IsStopOfCatalog (IsLostBlob catalog.new (B.seen catalog.new.area))) }
 {

@@ -13,7 +13,7 @@ ghost use Rattle.job_round.specs.Answers.{IfDamagedText, IfDone, IfIdle, IsDamag
 ghost use Rattle.job_round.specs.Cursors.{IsCursor};
 ghost use Rattle.job_round.specs.Ids.{by_id, key_of_id};
 ghost use Rattle.job_round.specs.Plans.{AreTold, IsOfPasses};
-ghost use Rattle.job_round.specs.Reads.{Reads, ReadsRound, ReadsTaking};
+ghost use Rattle.job_round.specs.Reads.{RunsReads, ReadsRound, ReadsTaking};
 ghost use Rattle.job_round.specs.Rounds.{IsEndStop, Rounds, RunsRound, RunsTaking};
 ghost use Rattle.job_round.specs.Stops.{IfDamaged};
 
@@ -35,7 +35,7 @@ fn at_end<B: Blobs>(alloc: Global, catalog: &mut Catalog<B>, cursor: u32) -> Res
     ensures stays { StaysOpen catalog.old catalog.new (B.seen catalog.old.area) (B.seen catalog.new.area) (IsErrOf result Stop.CatalogFault) }
     ensures idle { IfOk result (λ out. out ≡ Idle cursor) }
     ensures last { (cs : List Stored) → IsOpenFor catalog.old (B.seen catalog.old.area) cs → IfOk result (λ out. cursor ≡ length cs) }
-    ensures reads { catalog.old.settled ≡ true → Reads [] (B.seen catalog.old.area) (B.seen catalog.new.area) result }
+    ensures reads { catalog.old.settled ≡ true → RunsReads [] (B.seen catalog.old.area) (B.seen catalog.new.area) result }
     ensures cause { IfErr result (IsEndStop catalog.old (B.seen catalog.old.area) cursor) }
 {
     let count = match catalog.count(alloc) {

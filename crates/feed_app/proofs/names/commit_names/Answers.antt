@@ -1,5 +1,6 @@
 use Rattle.std.proofs.Common.{inr, option_map, rules}
-use Rattle.feed_app.specs.Commands.{pairs_of, texts}
+use Rattle.feed_app.specs.Commands.{pairs_of}
+use Rattle.feed_words.specs.Words.{texts}
 use Rattle.feed_app.specs.Names.{names_meaning}
 use Rattle.feed_app.specs.Outside.{over}
 use Rattle.feed_app.proofs.Ended.{end_explains}

@@ -1,7 +1,8 @@
 use Rattle.std.proofs.Common.{◌≡◌, Option, Some, subst}
 use Rattle.std.specs.Option.{option_and_then}
 use Rattle.feed_words.specs.Words.{Given, given, given_in}
-use Rattle.feed_app.specs.Commands.{base_of, command_of, of_given, texts}
+use Rattle.feed_app.specs.Commands.{base_of, command_of, of_given}
+use Rattle.feed_words.specs.Words.{texts}
 use Rattle.feed_app.specs.Does.{Does, reach_of}
 use Rattle.feed_app.specs.Frame.{KeepsValue}
 use Rattle.feed_app.specs.Outside.{input_of, over}

@@ -6,7 +6,7 @@ use Rattle.id_pass.specs.declared.call.Call.{Call}
 use Rattle.id_pass.specs.declared.call.Call.TheVariants.{Put, Remove}
 use Rattle.blob_store.proofs.OneCall.{none}
 use Rattle.job_round.specs.Made.{RunsCalls}
-use Rattle.job_round.specs.Reads.{Reads, bodies_of}
+use Rattle.job_round.specs.Reads.{RunsReads, bodies_of}
 use Rattle.job_round.proofs.Making.{calls_one}
 use Rattle.job_round.proofs.Reading.{reads_hive}
 use Rattle.job_round.proofs.Staying.{hive_all, no_catalog_fault, stays_still}
@@ -40,14 +40,14 @@ returns-in-Remove-clause-cause g c = λ settled. hive_all _ _ c.remove.result c.
 
 pub returns-in-Made-clause-reads : goal.returns-in-Made-clause-reads
 returns-in-Made-clause-reads g c = λ settled.
-    subst (λ (call : Call). Reads (bodies_of (call ∷ [])) (g.B.Blobs.seen c.args.catalog.now.area) (g.B.Blobs.seen c.args.catalog.now.area) c.put.result)
+    subst (λ (call : Call). RunsReads (bodies_of (call ∷ [])) (g.B.Blobs.seen c.args.catalog.now.area) (g.B.Blobs.seen c.args.catalog.now.area) c.put.result)
     (sym (c.in-Put.is ∙ ap (Put c.in-Put.name) c.in-Made.is))
     (reads_hive [] (g.B.Blobs.seen c.args.catalog.now.area) (g.B.Blobs.seen c.args.catalog.now.area)
     (none (g.B.Blobs.seen c.args.catalog.now.area) (g.met.B.Blobs.now c.args.catalog.now.area)) c.put.result c.put.ensures.cause)
 
 pub returns-in-Remove-clause-reads : goal.returns-in-Remove-clause-reads
 returns-in-Remove-clause-reads g c = λ settled.
-    subst (λ (call : Call). Reads (bodies_of (call ∷ [])) (g.B.Blobs.seen c.args.catalog.now.area) (g.B.Blobs.seen c.args.catalog.now.area) c.remove.result)
+    subst (λ (call : Call). RunsReads (bodies_of (call ∷ [])) (g.B.Blobs.seen c.args.catalog.now.area) (g.B.Blobs.seen c.args.catalog.now.area) c.remove.result)
     (sym c.in-Remove.is)
     (reads_hive [] (g.B.Blobs.seen c.args.catalog.now.area) (g.B.Blobs.seen c.args.catalog.now.area)
     (none (g.B.Blobs.seen c.args.catalog.now.area) (g.met.B.Blobs.now c.args.catalog.now.area)) c.remove.result c.remove.ensures.cause)

@@ -7,7 +7,7 @@ use Rattle.blob_store.proofs.OneCall.{none}
 use Rattle.catalog_doc.specs.declared.row.Row.{Row}
 use Rattle.catalog_items.specs.Leaves.{HasNoLeaf, row_with}
 use Rattle.catalog_rows.specs.Kept.{Kept}
-use Rattle.job_round.specs.Reads.{Reads, leaf_get}
+use Rattle.job_round.specs.Reads.{RunsReads, leaf_get}
 use Rattle.job_round.specs.declared.stop.Stop.TheVariants.{Memory}
 use Rattle.job_round.specs.Stops.{IsElse}
 use Rattle.job_round.proofs.Placing.{in_catalog, leaf_lost}
@@ -39,7 +39,7 @@ returns-in-Err-clause-cause g c = λ settled kept.
 pub returns-in_err-item-clause-reads : goal.returns-in_err-item-clause-reads
 returns-in_err-item-clause-reads g c = λ settled kept.
     let p = err_from_is_err_and c.from_residual.result c.from_residual.ensures.1 in
-    subst (λ (b : Bool). Reads (cond b [] (leaf_get c.args.row.now ∷ [])) (g.B.Blobs.seen c.args.catalog.now.area) (g.B.Blobs.seen c.args.catalog.now.area) c.from_residual.result)
+    subst (λ (b : Bool). RunsReads (cond b [] (leaf_get c.args.row.now ∷ [])) (g.B.Blobs.seen c.args.catalog.now.area) (g.B.Blobs.seen c.args.catalog.now.area) c.from_residual.result)
     (sym c.if-row.true)
     (reads_told [] (g.B.Blobs.seen c.args.catalog.now.area) (g.B.Blobs.seen c.args.catalog.now.area) Memory c.from_residual.result (p.1 ∙ ap Err p.2)
     (reads_behind [] (g.B.Blobs.seen c.args.catalog.now.area) (g.B.Blobs.seen c.args.catalog.now.area)
