@@ -91,7 +91,7 @@ calls_behind s now after o changes moment r over settled opens runs m base cs pl
     let at = over base cs (record { lawful = lawful; store = (m, there, spells) }) in
     let ran = runs cs at.1 in
     let own = subst (λ (first : List Act). RunsCommit first o.base cs changes moment now after r)
-        (no_settling o cs (misshapen changes) ran.0 settled ran.1) ran.2 in
+    (no_settling o cs (misshapen changes) ran.0 settled ran.1) ran.2 in
     runs_behind plan base cs changes moment s now after r (opens m base cs plan lawful there spells is)
     (subst (λ (b : List ℕ). RunsCommit [] b cs changes moment now after r) at.0 own)
 

@@ -141,7 +141,7 @@ fn count_all(kinds: &mut Kinds, commit: &Commit) {
 }
 
 /// How many items of each kind the commits have.
-pub fn kinds(commits: &[Commit]) -> Kinds {
+pub fn all_kinds(commits: &[Commit]) -> Kinds {
     let mut kinds = Kinds {
         publishes: 0,
         unlistings: 0,

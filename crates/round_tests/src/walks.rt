@@ -1,6 +1,6 @@
 // Random catalogs, with jobs at random places, each of whose store calls fails, and a last job behind further commits.
 use crate::areas::{Named, are_as, held, store_of, wanted};
-use crate::changes::{commit_next, kinds};
+use crate::changes::{all_kinds, commit_next};
 use crate::failures::ends;
 use crate::random::Random;
 use crate::rounds::BASE;
@@ -188,7 +188,7 @@ fn a_walk_has_every_kind(rt: HostRuntime) -> Result<(), Fail> {
     let Ok(commits) = catalog.commits(alloc) else {
         return Err(Fail::from(NoMemory));
     };
-    let kinds = kinds(commits.as_slice());
+    let kinds = all_kinds(commits.as_slice());
     assert_eq!(rt;
         (commits.len(), kinds.publishes, kinds.unlistings),
         (40, 31, 10)
