@@ -79,7 +79,7 @@ with_or_without cs changes now (Err ClockEnd) P (refused, p) = inl p
 no_settling : {B : Type 0} (o : Opened B) (cs : Catalog) (why : Option CommitErr) (first : List Act) → o.settled ≡ true → IsSettledBy o cs why first
     → first ≡ []
 no_settling o cs None first settled (inl (is, none)) = none
-no_settling o cs None first settled (inr (unsettled, rest)) = cc (settled, unsettled)
+no_settling o cs None first settled (inr (unsettled, before, more, made, kept, acts)) = cc (settled, unsettled)
 no_settling o cs (Some error) first settled none = none
 
 -- the calls of a commit of an open catalog, behind those of its opening

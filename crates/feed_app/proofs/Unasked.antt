@@ -64,9 +64,7 @@ module _ {B : Type 0} (m : Members B) (sure : (store : B) → IsSure (m.seen sto
     acts : (command : Command) → (meaning m command).acts before (Reply line.Memory) before
     acts (Init base) = (
       same_left base _,
-      Err init.Memory,
-      refl,
-      λ area there. inr ([], init_plan base (get area index_name), refl, none _ (sure before.stores.catalog)),
+      (Err init.Memory, refl, λ area there. inr ([], init_plan base (get area index_name), refl, none _ (sure before.stores.catalog))),
     )
     acts Publish = inl (tt, refl, refl)
     acts (Names kind pairs) = inl (tt, refl, refl)
