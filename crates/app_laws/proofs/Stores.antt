@@ -14,7 +14,7 @@ use Rattle.admin_wire.specs.declared.area.AreaName.TheVariants as area
 use Rattle.feed_app.specs.Commands.{Command, Init, Get, Publish, Names, Job, Cursor}
 use Rattle.feed_app.specs.Cursors.{cursor_reach}
 use Rattle.feed_app.specs.Does.{meaning}
-use Rattle.feed_app.specs.Frame.{Touch, Nothing, Asks, Opens, Changes, KeepsArea, KeepsAreas, NoneBehind, nothing, touch_of}
+use Rattle.feed_app.specs.Frame.{Touch, Nothing, Asks, Opens, Changes, KeepsArea, KeepsAreas, Reach, nothing, touch_of}
 use Rattle.feed_app.specs.Gets.{asked_under, get_reach}
 use Rattle.feed_app.specs.Hives.{served_under}
 use Rattle.feed_app.specs.Jobs.{job_reach}
@@ -23,7 +23,7 @@ use Rattle.feed_app.specs.declared.hives.ServedHive.{ServedHive}
 use Rattle.feed_app.specs.declared.hives.ServedHive.TheVariants as served
 use Rattle.app_laws.specs.Histories.{IsLeft, IsLeftBy}
 
-pub keeps_hive : {B : Type 0} (m : Members B) (reach : NoneBehind) (before after : Stores B) → KeepsAreas m reach before after → (hive : HiveName)
+pub keeps_hive : {B : Type 0} (m : Members B) (reach : Reach) (before after : Stores B) → KeepsAreas m reach before after → (hive : HiveName)
     → KeepsArea m (touch_of reach (area.Hive hive)) (area_of before (area.Hive hive)) (area_of after (area.Hive hive))
 keeps_hive m reach before after keeps Plain = keeps.plain
 keeps_hive m reach before after keeps SemVer2 = keeps.semver2
@@ -67,7 +67,7 @@ pub untouched_left : {B : Type 0} (m : Members B) (before after : Stores B) (new
     → (name : AreaName) → held m (area_of before name) ≡ Some (new name)
 untouched_left m before after new left name = none_left m before after name (new name) (left name)
 
-by_hive : (reach : NoneBehind) → IsStill reach.plain → IsStill reach.semver2 → IsStill reach.content → IsStill reach.auto → (hive : HiveName)
+by_hive : (reach : Reach) → IsStill reach.plain → IsStill reach.semver2 → IsStill reach.content → IsStill reach.auto → (hive : HiveName)
     → IsStill (touch_of reach (area.Hive hive))
 by_hive reach plain semver2 content auto Plain = plain
 by_hive reach plain semver2 content auto SemVer2 = semver2
