@@ -5,8 +5,32 @@ ghost use Rattle.feed.specs.Own.{own_text, text_for};
 
 use feed_base::{Sink, Status};
 
-const HELP: &str =
-    "feed: a NuGet package feed in a folder\n\nfeed <folder> init <base>              makes the empty catalog of a feed at this base address\nfeed <folder> publish                  commits the packages that standard input holds\nfeed <folder> unlist <id> <version>..  takes versions out of the listing, in one commit\nfeed <folder> list <id> <version>..    puts versions into the listing again, in one commit\nfeed <folder> delete <id> <version>..  deletes versions, in one commit\nfeed <folder> job <hive>               brings the documents of a hive up to the last commit\nfeed <folder> cursor <hive>            tells the number of the commit up to which they are\nfeed <folder> get <path>               writes the document of this path\nfeed --help                            writes this text\nfeed --version                         writes the version, and that of the kit\n\nA hive is plain, semver2, content or auto. Every command but init takes --base=<base>\nor --base <base> behind its word: a catalog of another base address is then refused.\n\nstatus 0  done\nstatus 2  the words have no meaning\nstatus 3  refused, by the rule that the line names\nstatus 4  a call of the folder's files failed\nstatus 5  the input or the output failed\nstatus 6  a file is damaged or absent\nstatus 7  the input is too long\nstatus 8  out of memory\n";
+const HELP: &str = "\
+feed: a NuGet package feed in a folder\n\
+\n\
+feed <folder> init <base>              makes the empty catalog of a feed at this base address\n\
+feed <folder> publish                  commits the packages that standard input holds\n\
+feed <folder> unlist <id> <version>..  takes versions out of the listing, in one commit\n\
+feed <folder> list <id> <version>..    puts versions into the listing again, in one commit\n\
+feed <folder> delete <id> <version>..  deletes versions, in one commit\n\
+feed <folder> job <hive>               brings the documents of a hive up to the last commit\n\
+feed <folder> cursor <hive>            tells the number of the commit up to which they are\n\
+feed <folder> get <path>               writes the document of this path\n\
+feed --help                            writes this text\n\
+feed --version                         writes the version, and that of the kit\n\
+\n\
+A hive is plain, semver2, content or auto. Every command but init takes --base=<base>\n\
+or --base <base> behind its word: a catalog of another base address is then refused.\n\
+\n\
+status 0  done\n\
+status 2  the words have no meaning\n\
+status 3  refused, by the rule that the line names\n\
+status 4  a call of the folder's files failed\n\
+status 5  the input or the output failed\n\
+status 6  a file is damaged or absent\n\
+status 7  the input is too long\n\
+status 8  out of memory\n\
+";
 
 const VERSION: &str = "feed, unreleased\nrattle-kit-13f logic dac8208d650f15bf\n";
 
