@@ -32,7 +32,7 @@ use Rattle.feed_app.specs.declared.answer.Answer.{Answer}
 use Rattle.feed_app.specs.declared.answer.Answer.TheVariants.{Document, Reply}
 use Rattle.feed_app.specs.declared.hives.ServedHive.{ServedHive}
 use Rattle.feed_app.proofs.Closed.{closed_not}
-use Rattle.app_laws.specs.Feeds.{HoldsHive}
+use Rattle.feed_app.specs.SoundHives.{HoldsHive}
 use Rattle.app_laws.specs.Scratch.{IsMadeOf, from_scratch}
 use Rattle.app_laws.proofs.Documents.{found, missing, of_get, prefix_of, same_store}
 use Rattle.app_laws.proofs.JobRounds.{job_ended, job_kept, line_of, made_of_all, unmoved}

@@ -27,11 +27,12 @@ use Rattle.feed_app.specs.Writes.{HasMore}
 use Rattle.feed_app.specs.declared.answer.Answer.{Answer}
 use Rattle.feed_app.specs.declared.answer.Answer.TheVariants.{Reply}
 use Rattle.feed_app.specs.declared.hives.ServedHive.{ServedHive}
-use Rattle.app_laws.specs.Feeds.{Areas, Cursors, Hold, HoldsFeed, HoldsHive, IsSoundFeed, NoneBehind}
+use Rattle.feed_app.specs.SoundHives.{HoldsHive}
+use Rattle.app_laws.specs.Feeds.{Areas, Cursors, Hold, HoldsFeed, IsSoundFeed, NoneBehind}
 use Rattle.app_laws.specs.Histories.{Becomes, Crashed, Ended, Fate, Grows, Lead, StepLeads, Step}
 use Rattle.app_laws.specs.Scratch.{from_scratch}
 use Rattle.app_laws.proofs.Fates.{get_found}
-use Rattle.app_laws.proofs.HiveLaws.{laws_of}
+use Rattle.feed_app.proofs.HiveLaws.{laws_of}
 use Rattle.app_laws.proofs.Kept.{feed_ended, feed_left, same_feed}
 use Rattle.app_laws.proofs.Runs.{done, three_of, zero_of}
 use Rattle.app_laws.proofs.Stores.{init_still, keeps_hive, still_held}

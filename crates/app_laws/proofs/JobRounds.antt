@@ -16,7 +16,8 @@ use Rattle.id_pass.specs.declared.error.RoundErr.{RoundErr}
 use Rattle.id_pass.specs.declared.error.RoundErr.TheVariants as stop
 use Rattle.id_pass.specs.declared.error.RoundOut.{RoundOut}
 use Rattle.id_pass.specs.declared.error.RoundOut.TheVariants as out
-use Rattle.job_round.specs.Answers.{told_number}
+use Rattle.job_round.specs.Answers.{in_catalog, in_hive, told_number}
+use Rattle.job_round.specs.Rounds.{Rounds}
 use Rattle.round_laws.specs.OnAreas.{HoldsArea, IsSoundOrSettled, OnSoundArea}
 use Rattle.round_laws.proofs.Leaving.{keeps_either}
 use Rattle.round_laws.proofs.Rounding as rounding
@@ -26,14 +27,14 @@ use Rattle.admin_wire.specs.declared.line.Line.TheVariants as line
 use Rattle.feed_app.specs.Answers.{answer_status}
 use Rattle.feed_app.specs.Damages.{IsLostOfHive, IsUnread}
 use Rattle.feed_app.specs.Hives.{hive_fold, keeps_in, makes_in}
-use Rattle.feed_app.specs.Jobs.{Jobs, MadeOver, RoundMade, RoundTold}
+use Rattle.feed_app.specs.Jobs.{Jobs, MadeOver, RoundTold}
 use Rattle.feed_app.specs.Outside.{Members}
 use Rattle.feed_app.specs.Spelled.{HasCatalog, IsSpelled}
 use Rattle.feed_app.specs.declared.answer.Answer.{Answer}
 use Rattle.feed_app.specs.declared.answer.Answer.TheVariants.{Reply}
 use Rattle.feed_app.proofs.Closed.{closed_not}
 use Rattle.app_laws.specs.Scratch.{IsMadeOf, from_scratch}
-use Rattle.app_laws.proofs.HiveLaws.{laws_of, staged_in}
+use Rattle.feed_app.proofs.HiveLaws.{laws_of, staged_in}
 
 -- the line for what a round answered
 abbrev pub line_of : HiveName → RoundOut → Line
@@ -47,8 +48,8 @@ module _ (hive : HiveName) (Made : Result RoundOut RoundErr → Type 0) (Unread 
   made_of (Reply (line.Idle which n)) is = (Ok (out.Idle n), is.1)
   made_of (Reply (line.Fault area.Catalog)) is = (Err stop.CatalogFault, is)
   made_of (Reply (line.Fault (area.Hive which))) is = (Err stop.HiveFault, is.1)
-  made_of (Reply (line.Damaged area.Catalog name)) is = (Err (stop.Damaged is.1.0), is.1.1)
-  made_of (Reply (line.Damaged (area.Hive which) name)) is = (Err (stop.Damaged is.2.0), is.2.1)
+  made_of (Reply (line.Damaged area.Catalog name)) is = (Err (stop.Damaged (in_catalog name)), is.1)
+  made_of (Reply (line.Damaged (area.Hive which) name)) is = (Err (stop.Damaged (in_hive is.2.0 name)), is.2.1)
   made_of (Reply line.Memory) (inl made) = (Err stop.Memory, made)
   made_of (Reply line.Memory) (inr (text, made)) = (Err (stop.Damaged text), made)
   made_of _ is = absurd is
@@ -63,55 +64,57 @@ module _ (hive : HiveName) (Made : Result RoundOut RoundErr → Type 0) (Unread 
   ended_of (Reply line.Memory) is zero = absurd (omega (arith, zero))
   ended_of _ is zero = absurd is
 
-module _ {B : Type 0} (m : Members B) (hive : HiveName) (catalog old new : Seen) (base : List ℕ) (cs : Catalog) (c : ℕ) (blobs : Area)
+module _ {B : Type 0} (m : Members B) (hive : HiveName) (catalog later old new : Seen) (base : List ℕ) (cs : Catalog) (c : ℕ) (blobs : Area)
     (has : HasCatalog catalog base cs) (is : old.held ≡ Some blobs) (sound : SoundArea (hive_fold hive base) cs c blobs) where
   abbrev f : Fold
   f = hive_fold hive base
 
   -- the catalog that was opened is this one
-  made_at_base : (result : Result RoundOut RoundErr) (over : MadeOver m hive catalog old new result)
-      → RoundMade f (IsOpenFor over.0 (m.seen over.0.area)) old new result
-  made_at_base result over = subst (λ (x : List ℕ). RoundMade (hive_fold hive x) (IsOpenFor over.0 (m.seen over.0.area)) old new result) (over.1 base cs has).0 over.2
+  its_calls : (result : Result RoundOut RoundErr) (over : MadeOver m hive catalog later old new result)
+      → Rounds f (IsOpenFor over.opened (m.seen over.opened.area)) old new result
+  its_calls result over =
+      subst (λ (x : List ℕ). Rounds (hive_fold hive x) (IsOpenFor over.opened (m.seen over.opened.area)) old new result) (over.spelled base cs has).0
+      over.made.round.runs
 
-  on_it : (result : Result RoundOut RoundErr) (over : MadeOver m hive catalog old new result)
-      → OnSoundArea f (IsOpenFor over.0 (m.seen over.0.area)) cs c blobs old
-  on_it result over = record { meant = (over.1 base cs has).1; catalog = has.lawful; held = is; sound = sound }
+  on_it : (result : Result RoundOut RoundErr) (over : MadeOver m hive catalog later old new result)
+      → OnSoundArea f (IsOpenFor over.opened (m.seen over.opened.area)) cs c blobs old
+  on_it result over = record { meant = (over.spelled base cs has).1; catalog = has.lawful; held = is; sound = sound }
 
   abbrev Either : Area → Type 0
   Either left = IsSoundOrSettled f cs c left
 
-  kept : (result : Result RoundOut RoundErr) → MadeOver m hive catalog old new result → HoldsArea new Either × LeavesOnly old new Either
+  kept : (result : Result RoundOut RoundErr) → MadeOver m hive catalog later old new result → HoldsArea new Either × LeavesOnly old new Either
   kept result over =
-      keeps_either (keeps_in hive) (makes_in hive) base (staged_in hive) cs (IsOpenFor over.0 (m.seen over.0.area)) c blobs old new
-      (laws_of hive base cs has.lawful.lawful) (on_it result over) result (made_at_base result over).runs
+      keeps_either (keeps_in hive) (makes_in hive) base (staged_in hive) cs (IsOpenFor over.opened (m.seen over.opened.area)) c blobs old new
+      (laws_of hive base cs has.lawful.lawful) (on_it result over) result (its_calls result over)
 
-  settled : (told : RoundOut) → MadeOver m hive catalog old new (Ok told) → HoldsArea new (SettledArea f cs (length cs))
+  settled : (told : RoundOut) → MadeOver m hive catalog later old new (Ok told) → HoldsArea new (SettledArea f cs (length cs))
   settled (out.Done n) over =
-      rounding.settled (keeps_in hive) (makes_in hive) base (staged_in hive) cs (IsOpenFor over.0 (m.seen over.0.area)) c blobs old new
-      (laws_of hive base cs has.lawful.lawful) (on_it (Ok (out.Done n)) over) n (made_at_base (Ok (out.Done n)) over).runs
+      rounding.settled (keeps_in hive) (makes_in hive) base (staged_in hive) cs (IsOpenFor over.opened (m.seen over.opened.area)) c blobs old new
+      (laws_of hive base cs has.lawful.lawful) (on_it (Ok (out.Done n)) over) n (its_calls (Ok (out.Done n)) over)
   settled (out.Idle n) over =
-      let idle = rounding.idle_settled (keeps_in hive) (makes_in hive) base (staged_in hive) cs (IsOpenFor over.0 (m.seen over.0.area)) c blobs old new
-      (laws_of hive base cs has.lawful.lawful) (on_it (Ok (out.Idle n)) over) n (made_at_base (Ok (out.Idle n)) over).runs in
+      let idle = rounding.idle_settled (keeps_in hive) (makes_in hive) base (staged_in hive) cs (IsOpenFor over.opened (m.seen over.opened.area)) c blobs old new
+      (laws_of hive base cs has.lawful.lawful) (on_it (Ok (out.Idle n)) over) n (its_calls (Ok (out.Idle n)) over) in
       (blobs, idle.0, idle.1)
 
-  number : (told : RoundOut) → MadeOver m hive catalog old new (Ok told) → told_number told ≡ length cs
-  number told over = (made_at_base (Ok told) over).number cs (over.1 base cs has).1
+  number : (told : RoundOut) → MadeOver m hive catalog later old new (Ok told) → told_number told ≡ length cs
+  number told over = over.made.number cs (over.spelled base cs has).1
 
-  pub job_ended : {Same : Type 0} (given : Option (List ℕ)) (later : Seen) (answer : Answer) → Jobs m given hive answer catalog later Same old new
+  pub job_ended : {Same : Type 0} (given : Option (List ℕ)) (answer : Answer) → Jobs m given hive answer catalog later Same old new
       → answer_status answer ≡ 0
       → HoldsArea new (SettledArea f cs (length cs)) × ((told : RoundOut) × (told_number told ≡ length cs) × (answer ≡ Reply (line_of hive told)))
-  job_ended given later answer (inl (closed, same)) zero =
+  job_ended given answer (inl (closed, same)) zero =
       absurd (closed_not given answer catalog later closed base cs has 0 zero (λ e. omega (arith, e)) (λ e. omega (arith, e)) (λ e. omega (arith, e)))
-  job_ended given later answer (inr (may, told)) zero =
-      let end = ended_of hive (MadeOver m hive catalog old new) (IsUnread catalog.held) (IsLostOfHive (IsSpelled catalog) new.held) answer told zero in
+  job_ended given answer (inr (may, told)) zero =
+      let end = ended_of hive (MadeOver m hive catalog later old new) (IsUnread catalog.held) (IsLostOfHive (IsSpelled catalog) new.held) answer told zero in
       (settled end.0 end.1, (end.0, number end.0 end.1, end.2))
 
-  pub job_kept : {Same : Type 0} (given : Option (List ℕ)) (later : Seen) (answer : Answer) → (Same → HoldsArea new Either × LeavesOnly old new Either)
+  pub job_kept : {Same : Type 0} (given : Option (List ℕ)) (answer : Answer) → (Same → HoldsArea new Either × LeavesOnly old new Either)
       → Jobs m given hive answer catalog later Same old new
       → HoldsArea new Either × LeavesOnly old new Either
-  job_kept given later answer unmoved (inl (closed, same)) = unmoved same
-  job_kept given later answer unmoved (inr (may, told)) =
-      let made = made_of hive (MadeOver m hive catalog old new) (IsUnread catalog.held) (IsLostOfHive (IsSpelled catalog) new.held) answer told in
+  job_kept given answer unmoved (inl (closed, same)) = unmoved same
+  job_kept given answer unmoved (inr (may, told)) =
+      let made = made_of hive (MadeOver m hive catalog later old new) (IsUnread catalog.held) (IsLostOfHive (IsSpelled catalog) new.held) answer told in
       kept made.0 made.1
 
 -- where nothing was asked

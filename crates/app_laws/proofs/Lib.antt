@@ -1,7 +1,6 @@
 pub mod Fates
 pub mod Documents
 pub mod Growth
-pub mod HiveLaws
 pub mod Histories
 pub mod JobRounds
 pub mod Kept

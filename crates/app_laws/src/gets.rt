@@ -6,10 +6,10 @@ ghost use Rattle.feed_app.specs.Hives.{hive_name};
 ghost use Rattle.feed_app.specs.Openings.{MayOpen};
 ghost use Rattle.feed_app.specs.Outside.{bounds, output_of};
 ghost use Rattle.feed_app.specs.Runs.{ForRuns};
+ghost use Rattle.feed_app.specs.SoundHives.{HoldsHive};
 ghost use Rattle.feed_app.specs.Targets.{IsHivePath};
 ghost use Rattle.feed_app.specs.Writes.{HasMore};
 ghost use Rattle.feed_app.specs.declared.hives.ServedHive.{ServedHive};
-ghost use Rattle.app_laws.specs.Feeds.{HoldsHive};
 ghost use Rattle.app_laws.specs.Scratch.{from_scratch};
 
 use blob_store::Blobs;

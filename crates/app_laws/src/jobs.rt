@@ -12,8 +12,8 @@ ghost use Rattle.feed_app.specs.Commands.{Cursor, Job, command_of};
 ghost use Rattle.feed_app.specs.Hives.{hive_fold};
 ghost use Rattle.feed_app.specs.Outside.{area_of, bounds, output_of};
 ghost use Rattle.feed_app.specs.Runs.{ForRuns};
+ghost use Rattle.feed_app.specs.SoundHives.{HoldsHive};
 ghost use Rattle.feed_app.specs.Writes.{HasMore};
-ghost use Rattle.app_laws.specs.Feeds.{HoldsHive};
 ghost use Rattle.app_laws.specs.Scratch.{IsMadeOf};
 
 use blob_store::Blobs;

@@ -8,6 +8,7 @@ pub mod Cursors
 pub mod Ended
 pub mod Endings
 pub mod Gets
+pub mod HiveLaws
 pub mod Holding
 pub mod Inits
 pub mod Jobs

@@ -16,6 +16,7 @@ pub mod Openings
 pub mod Outside
 pub mod Publishes
 pub mod Runs
+pub mod SoundHives
 pub mod Spelled
 pub mod Targets
 pub mod Writes

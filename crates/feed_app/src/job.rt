@@ -2,12 +2,10 @@
 ghost use Rattle.std.specs.Prelude.{◌≡◌, ℕ, List, Option, option_map};
 ghost use Rattle.feed_base.specs.Counts.{HasRisen};
 ghost use Rattle.catalog_core.specs.Framing.{StaysOpen};
-ghost use Rattle.catalog_core.specs.Opened.{IsOpenFor};
 ghost use Rattle.fold_core.specs.Folds.{fold_of};
-ghost use Rattle.job_round.specs.Answers.{IsLostInCatalog, IsLostInHive};
 ghost use Rattle.feed_app.specs.Frame.{IsDone};
 ghost use Rattle.feed_app.specs.Hives.{KeepsBut, hive_fold};
-ghost use Rattle.feed_app.specs.Jobs.{RoundTold, RoundMade, job_meaning};
+ghost use Rattle.feed_app.specs.Jobs.{RoundAnswers, job_meaning};
 ghost use Rattle.feed_app.specs.Outside.{AreaRose, Stream, by_hive_name, over};
 
 use crate::answer::Answer;
@@ -28,9 +26,8 @@ fn job_in<H: Hive, B: Blobs>(
     area: &mut B,
     hive: HiveName,
 ) -> Answer
-    ensures is { RoundTold (RoundMade (fold_of H.keeps H.makes catalog.old.base) (IsOpenFor catalog.old (B.seen catalog.old.area)) (B.seen area.old) (B.seen area.new))
-        (IsLostInCatalog catalog.old catalog.new (B.seen catalog.old.area) (B.seen catalog.new.area))
-        (IsLostInHive catalog.old (B.seen catalog.old.area) (B.seen area.new).held) hive result }
+    ensures is { RoundAnswers (fold_of H.keeps H.makes catalog.old.base) catalog.old catalog.new (B.seen catalog.old.area) (B.seen catalog.new.area)
+        (B.seen area.old) (B.seen area.new) hive result }
     ensures stays { StaysOpen catalog.old catalog.new (B.seen catalog.old.area) (B.seen catalog.new.area)
         (result ≡ Answer.Reply (Line.Fault AreaName.Catalog)) }
     ensures hive_cause { result ≡ Answer.Reply (Line.Fault (AreaName.Hive hive)) → HasRisen (B.seen area.old).faults (B.seen area.new).faults }
@@ -49,10 +46,8 @@ fn job_of<B: Blobs>(
     auto: &mut B,
     hive: HiveName,
 ) -> Answer
-    ensures is { RoundTold (RoundMade (hive_fold hive catalog.old.base) (IsOpenFor catalog.old (B.seen catalog.old.area))
-        (B.seen (by_hive_name plain.old semver2.old content.old auto.old hive)) (B.seen (by_hive_name plain.new semver2.new content.new auto.new hive)))
-        (IsLostInCatalog catalog.old catalog.new (B.seen catalog.old.area) (B.seen catalog.new.area))
-        (IsLostInHive catalog.old (B.seen catalog.old.area) (B.seen (by_hive_name plain.new semver2.new content.new auto.new hive)).held) hive result }
+    ensures is { RoundAnswers (hive_fold hive catalog.old.base) catalog.old catalog.new (B.seen catalog.old.area) (B.seen catalog.new.area)
+        (B.seen (by_hive_name plain.old semver2.old content.old auto.old hive)) (B.seen (by_hive_name plain.new semver2.new content.new auto.new hive)) hive result }
     ensures stays { StaysOpen catalog.old catalog.new (B.seen catalog.old.area) (B.seen catalog.new.area)
         (result ≡ Answer.Reply (Line.Fault AreaName.Catalog)) }
     ensures hive_cause { result ≡ Answer.Reply (Line.Fault (AreaName.Hive hive))

@@ -1,7 +1,9 @@
 pub mod Damage
+pub mod Getting
 pub mod Ids
 pub mod Leaving
 pub mod Prefixes
 pub mod Rounding
 pub mod Ways
+pub mod Wholeness
 pub mod Within

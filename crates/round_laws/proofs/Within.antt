@@ -31,12 +31,16 @@ use Rattle.round_laws.proofs.Ids.{are_due}
 use Rattle.round_laws.proofs.Prefixes.{front_changes, front_got, front_none, front_split, whole_front}
 use Rattle.round_laws.proofs.Ways.{are_calls, only, pass_sound, some_by, starts}
 
-contains_left : (key : List ℕ) (xs ys : List (List ℕ)) → Contains xs key → Contains (xs ++ ys) key
+pub contains_left : (key : List ℕ) (xs ys : List (List ℕ)) → Contains xs key → Contains (xs ++ ys) key
 contains_left key [] ys is = absurd (nothing_in key is)
 contains_left key (x ∷ xs) ys is = ⊎_elim
     (λ e. subst (λ (y : List ℕ). Contains (y ∷ xs ++ ys) key) e (first key (xs ++ ys)))
     (λ there. later x key (xs ++ ys) (contains_left key xs ys there))
     (split x key xs is)
+
+pub contains_right : (key : List ℕ) (xs ys : List (List ℕ)) → Contains ys key → Contains (xs ++ ys) key
+contains_right key [] ys is = is
+contains_right key (x ∷ xs) ys is = later x key (xs ++ ys) (contains_right key xs ys is)
 
 contains_next : (key : List ℕ) (xs ys : List (List ℕ)) → Contains (xs ++ key ∷ ys) key
 contains_next key [] ys = first key ys
@@ -82,6 +86,13 @@ module _ (keeps : Keeps) (makes : Makes) (base : List ℕ) (staged : (base key :
       (pass_sound keeps makes base staged cs catalog laws Q meant c target ends p m sound item all.0)
       (λ j is. items j (later p.key j (keys_in passes) is)) all.1 more)
       (front_split (pass_plan p) (passes_plan passes) m left here)
+
+  -- what they leave together
+  pub whole_passes : (passes : List Pass) (m : Area) → SoundArea f cs c m → HaveItems cs c (length cs) (keys_in passes)
+      → AreWholePasses f Q c target (Some m) passes
+      → SoundArea f cs c (after_plan (passes_plan passes) m)
+  whole_passes passes m sound items all =
+      within_passes passes m (after_plan (passes_plan passes) m) sound items all (whole_front (passes_plan passes) m)
 
   -- within a pass that is made in part
   within_part : (p : Pass) (m left : Area) → SoundArea f cs c m → c < touched_by cs p.key (length cs) → IsPartPass f Q c target (Some m) p

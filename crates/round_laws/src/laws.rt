@@ -15,7 +15,7 @@ ghost use Rattle.id_pass.specs.declared.error.RoundOut.{RoundOut};
 ghost use Rattle.id_pass.specs.declared.error.RoundOut.TheVariants.{Done, Idle};
 ghost use Rattle.job_round.specs.Answers.{IsDamagedBlob, IsLostInCatalog, IsLostInHive, in_catalog};
 ghost use Rattle.job_round.specs.Rounds.{Rounds};
-ghost use Rattle.round_laws.specs.OnAreas.{HoldsArea, IsSoundOrSettled, OnSoundArea};
+ghost use Rattle.round_laws.specs.OnAreas.{HoldsArea, IsSoundOrSettled, OnSoundArea, RoundOver};
 
 use blob_store::Blobs;
 use fold_core::Hive;
@@ -64,7 +64,8 @@ pub fn rounds_keep_cursors<H: Hive, B: Blobs>()
         ⊎ ((get left cursor_name ≡ cursor_at cs (length cs)) × SettledArea (fold_of H.keeps H.makes o.base) cs (length cs) left)) }
 {}
 
-/// Of a round over a sound area no blob of the hive is damaged: what is told so is one of the catalog. It does nothing.
+/// Of a round over a sound area no blob of the hive is damaged: what is told so is one of the catalog. Where the catalog is settled, none is
+/// told at all. It does nothing.
 pub fn sound_rounds_are_whole<H: Hive, B: Blobs>()
     ensures none_of_hive { (o : Opened B) (old new : B) (cs : Catalog) (c : ℕ) (m : Area) (error : RoundErr)
         → OnSoundArea (fold_of H.keeps H.makes o.base) (IsOpenFor o (B.seen o.area)) cs c m (B.seen old)
@@ -75,4 +76,7 @@ pub fn sound_rounds_are_whole<H: Hive, B: Blobs>()
         → Rounds (fold_of H.keeps H.makes o.base) (IsOpenFor o (B.seen o.area)) (B.seen old) (B.seen new) (Err (Damaged text))
         → IsDamagedBlob o after (B.seen o.area) (B.seen after.area) (B.seen new).held text
         → (name : List ℕ) × (text ≡ in_catalog name) × IsLostInCatalog o after (B.seen o.area) (B.seen after.area) name }
+    ensures none { (o after : Opened B) (old new : B) (cs : Catalog) (c : ℕ) (m : Area) (text : List ℕ)
+        → OnSoundArea (fold_of H.keeps H.makes o.base) (IsOpenFor o (B.seen o.area)) cs c m (B.seen old)
+        → RoundOver (fold_of H.keeps H.makes o.base) o after (B.seen o.area) (B.seen after.area) (B.seen old) (B.seen new) (Err (Damaged text)) → ⊥ }
 {}

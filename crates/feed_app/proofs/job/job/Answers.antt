@@ -1,7 +1,6 @@
 use Rattle.std.proofs.Common.{inl, inr, option_map, refl, sym, subst}
 use Rattle.feed_base.specs.Counts.{HasRisen}
 use Rattle.job_round.specs.Answers.{IsLostInCatalog, IsLostInHive}
-use Rattle.catalog_core.specs.Opened.{IsOpenFor}
 use Rattle.feed_app.specs.Damages.{IsLostOfHive, IsUnread}
 use Rattle.feed_app.specs.Hives.{hive_fold}
 use Rattle.feed_app.specs.Jobs.{MadeOver, RoundMade}
@@ -24,7 +23,8 @@ returns-in-Ok g c = λ input clock.
     let s = m.seen c.args.stores.catalog in
     let o = c.in-Ok.catalog in
     let now = m.seen o.area in
-    let later = m.seen c.job_of-answer.new.catalog.area in
+    let left_open = c.job_of-answer.new.catalog in
+    let later = m.seen left_open.area in
     let left = record c.args.stores {
       catalog = c.into_area.result;
       plain = c.job_of-answer.new.plain;
@@ -45,13 +45,19 @@ returns-in-Ok g c = λ input clock.
     c.job_of-answer.ensures.hive_cause
     (inr (
       allowed_by given s now o c.in-Ok.ensures.opened,
-      answers_as hive (RoundMade (hive_fold hive o.base) (IsOpenFor o now) old new) (MadeOver m hive s old new)
-          (IsLostInCatalog o c.job_of-answer.new.catalog now later) (IsLostInHive o now new.held)
+      answers_as hive (RoundMade (hive_fold hive o.base) o left_open now later old new) (MadeOver m hive s (m.seen left.catalog) old new)
+          (IsLostInCatalog o left_open now later) (IsLostInHive o now new.held)
           (IsUnread s.held) (IsLostOfHive (IsSpelled s) new.held)
-          (λ r made. (o, opened, made))
-          (λ name lost. unread o c.job_of-answer.new.catalog now later c.in-Ok.ensures.settled c.job_of-answer.ensures.stays name lost s.held
+          (λ r made. record {
+            opened = o;
+            left = left_open;
+            spelled = opened;
+            opening = λ m_ base cs plan lawful held spells is. c.in-Ok.ensures.runs m_ base cs plan lawful held spells is;
+            made = subst (λ x. RoundMade (hive_fold hive o.base) o left_open now (m.seen x) old new r) (sym c.into_area.ensures) made;
+          })
+          (λ name lost. unread o left_open now later c.in-Ok.ensures.settled c.job_of-answer.ensures.stays name lost s.held
           c.in-Ok.ensures.mends.area)
-          (gone s o now opened new.held) c.job_of-answer.result c.job_of-answer.ensures.is,
+          (gone s o now opened new.held) c.job_of-answer.result (c.job_of-answer.ensures.is c.in-Ok.ensures.settled),
     ))
 
 pub returns-in-Err : goal.returns-in-Err

@@ -1,4 +1,3 @@
-use Rattle.catalog_core.specs.Opened.{IsOpenFor}
 use Rattle.fold_core.specs.Folds.{fold_of}
 use Rattle.job_round.specs.Answers.{IsLostInCatalog, IsLostInHive}
 use Rattle.feed_app.specs.Jobs.{RoundMade}
@@ -6,17 +5,23 @@ use Rattle.feed_app.proofs.Jobs.{of_catalog, of_hive, rose_by, round_answers, st
 use Rattle.feed_app.proofs.job.job_in.Goals as goal
 
 pub returns-clause-is : goal.returns-clause-is
-returns-clause-is g c =
+returns-clause-is g c = λ settled.
     let m = g.B.Blobs in
     let o = c.args.catalog.now in
     let old = m.seen c.args.area.now in
     let new = m.seen c.run_round-result.new.area in
     let later = c.run_round-result.new.catalog in
-    round_answers c.args.hive (RoundMade (fold_of g.H.Hive.keeps g.H.Hive.makes o.base) (IsOpenFor o (m.seen o.area)) old new)
+    round_answers c.args.hive (RoundMade (fold_of g.H.Hive.keeps g.H.Hive.makes o.base) o later (m.seen o.area) (m.seen later.area) old new)
     (IsLostInCatalog o later (m.seen o.area) (m.seen later.area)) (IsLostInHive o (m.seen o.area) new.held)
     c.run_round-result.result c.of_round.result c.of_round.ensures
     (record {
-      runs = c.run_round-result.ensures.runs;
+      round = record {
+        settled = settled;
+        runs = c.run_round-result.ensures.runs;
+        reads = c.run_round-result.ensures.reads settled;
+        stays = c.run_round-result.ensures.stays;
+        damaged = c.run_round-result.ensures.damaged;
+      };
       number = c.run_round-result.ensures.target;
       behind = c.run_round-result.ensures.done;
       idle = c.run_round-result.ensures.idle;
