@@ -71,8 +71,9 @@ module _ {B I O C : Type 0} (b : Bounds B I O C) (words : List (List ℕ)) (befo
         → HoldsArea (b.blobs.seen New) (SettledArea (hive_fold hive base) cs (length cs)) × (More (line_text (line.Done hive (length cs))) ⊎ More (line_text (line.Idle hive (length cs))))
     job_settled asked zero =
         let its = done b words before after status run (Job hive) asked in
-        let end = job_ended b.blobs hive (b.blobs.seen before.stores.catalog) (b.blobs.seen Old) (b.blobs.seen New) base cs c holds.sound.0 holds.catalog
-        holds.sound.1 holds.sound.2 (base_of words) (b.blobs.seen after.stores.catalog) run.answer its.acts (zero_of b words before after status run zero) in (
+        let end = job_ended b.blobs hive (b.blobs.seen before.stores.catalog) (b.blobs.seen after.stores.catalog) (b.blobs.seen Old) (b.blobs.seen New)
+        base cs c holds.sound.0 holds.catalog
+        holds.sound.1 holds.sound.2 (base_of words) run.answer its.acts (zero_of b words before after status run zero) in (
           end.0,
           done_line hive end.1.0 (length cs) (output_of b.sink before.output) (output_of b.sink after.output) end.1.1
               (written (Reply (line_of hive end.1.0)) end.1.2 zero),
@@ -86,8 +87,9 @@ module _ {B I O C : Type 0} (b : Bounds B I O C) (words : List (List ℕ)) (befo
         × LeavesOnly (b.blobs.seen Old) (b.blobs.seen New) (IsSoundOrSettled (hive_fold hive base) cs c)
     job_sound asked sure =
         let its = done b words before after status run (Job hive) asked in
-        job_kept b.blobs hive (b.blobs.seen before.stores.catalog) (b.blobs.seen Old) (b.blobs.seen New) base cs c holds.sound.0 holds.catalog
-        holds.sound.1 holds.sound.2 (base_of words) (b.blobs.seen after.stores.catalog) run.answer
+        job_kept b.blobs hive (b.blobs.seen before.stores.catalog) (b.blobs.seen after.stores.catalog) (b.blobs.seen Old) (b.blobs.seen New)
+        base cs c holds.sound.0 holds.catalog
+        holds.sound.1 holds.sound.2 (base_of words) run.answer
         (λ same. unmoved b.blobs Old New holds.sound.0 (IsSoundOrSettled (hive_fold hive base) cs c) sure holds.sound.1 (inl holds.sound.2) same) its.acts
 
     cursor_answer : Cursors (base_of words) hive run.answer (b.blobs.seen before.stores.catalog) (b.blobs.seen after.stores.catalog) (New ≡ Old) (held b.blobs Old)

@@ -121,8 +121,8 @@ module _ {B : Type 0} (m : Members B) (sure : (store : B) → IsSure (m.seen sto
       → HoldsArea (m.seen (new_of hive)) (IsSoundOrSettled (f hive) cs (at hive))
       × LeavesOnly (m.seen (old_of hive)) (m.seen (new_of hive)) (IsSoundOrSettled (f hive) cs (at hive))
   job_left hive done =
-      job_kept m hive (m.seen before.stores.catalog) (m.seen (old_of hive)) (m.seen (new_of hive))
-      base cs (at hive) (areas (area.Hive hive)) has (hold (area.Hive hive)) (feed.hives hive) before.given (m.seen after.stores.catalog) answer
+      job_kept m hive (m.seen before.stores.catalog) (m.seen after.stores.catalog) (m.seen (old_of hive)) (m.seen (new_of hive))
+      base cs (at hive) (areas (area.Hive hive)) has (hold (area.Hive hive)) (feed.hives hive) before.given answer
       (λ same. unmoved m (old_of hive) (new_of hive) (areas (area.Hive hive))
       (IsSoundOrSettled (f hive) cs (at hive)) (sure (old_of hive)) (hold (area.Hive hive)) (inl (feed.hives hive)) same)
       done.acts
