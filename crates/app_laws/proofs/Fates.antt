@@ -1,14 +1,13 @@
 -- What a run of a command says of a sound hive's store, of its documents and of its cursor.
-use Rattle.std.proofs.Common.{◌≡◌, ◌≢◌, ◌⊎◌, ◌≤◌, inl, inr, ℕ, List, length, take, Option, Some, None, refl, sym, ◌∙◌, ap, subst, arith}
+use Rattle.std.proofs.Common.{◌≡◌, ◌≢◌, ◌⊎◌, ◌≤◌, inl, inr, ℕ, List, length, take, Option, Some, None, sym, ◌∙◌, ap, subst, arith}
 use Rattle.std.specs.FinMap.{get}
-use Rattle.feed_base.proofs.Options.{at_some}
 use Rattle.blob_store.specs.Area.{Area}
 use Rattle.blob_store.specs.Moments.{LeavesOnly}
 use Rattle.blob_store.specs.Seen.{IsSure}
 use Rattle.pkg_meta.specs.Catalog.{Catalog}
 use Rattle.cursor_doc.specs.Cursor.{cursor_name}
 use Rattle.fold_core.specs.declared.hive.HiveName.{HiveName}
-use Rattle.hive_laws.specs.Areas.{SettledArea, SoundArea}
+use Rattle.hive_laws.specs.Areas.{SettledArea}
 use Rattle.id_pass.specs.declared.error.RoundOut.{RoundOut}
 use Rattle.id_pass.specs.declared.error.RoundOut.TheVariants as out
 use Rattle.job_round.specs.Answers.{told_number}
@@ -24,7 +23,7 @@ use Rattle.feed_app.specs.Cursors.{Cursors, TellsCursor}
 use Rattle.feed_app.specs.Gets.{OfHive}
 use Rattle.feed_app.specs.Hives.{hive_fold, hive_name, hive_stores}
 use Rattle.feed_app.specs.Openings.{MayOpen}
-use Rattle.feed_app.specs.Outside.{Bounds, Outside, Stream, area_of, held, output_of, sight}
+use Rattle.feed_app.specs.Outside.{Bounds, Outside, Stream, area_of, held, output_of}
 use Rattle.feed_app.specs.Runs.{RunsCommand}
 use Rattle.feed_app.specs.Targets.{IsHivePath}
 use Rattle.feed_app.specs.Writes.{HasMore}

@@ -11,7 +11,6 @@ use Rattle.catalog_doc.specs.Names.{index_name}
 use Rattle.catalog_laws.proofs.Kept.{none_catalog}
 use Rattle.hive_laws.proofs.AreaRounds.{empty_area}
 use Rattle.fold_core.specs.declared.hive.HiveName.{HiveName}
-use Rattle.admin_wire.specs.declared.area.AreaName.{AreaName}
 use Rattle.admin_wire.specs.declared.area.AreaName.TheVariants as area
 use Rattle.admin_wire.specs.declared.line.Line.TheVariants as line
 use Rattle.feed_app.specs.Answers.{answer_status}

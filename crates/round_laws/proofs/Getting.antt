@@ -175,8 +175,7 @@ module _ (m : Area) (base : List ℕ) (cs : Catalog) (catalog : IsCatalog cs) (s
           let items : HaveItems cs c (length cs) (keys_in passes ++ rest) =
           subst (λ (l : List (List ℕ)). HaveItems cs c (length cs) l) (sym ids) (are_due cs c catalog.lawful).some in
           let sound : SoundArea f cs c (after_plan (passes_plan passes) hive) = whole_passes keeps makes own staged cs catalog laws Q meant c target ends passes
-          hive on.sound (λ j is. items j (contains_left j (keys_in passes) rest is)) every in
-          (
+          hive on.sound (λ j is. items j (contains_left j (keys_in passes) rest is)) every in (
             passes_reads n rows passes ++ reads,
             both_found (passes_reads n rows passes) reads
                 (subst (λ (k : ℕ). AllFound m (passes_reads k rows passes)) (sym e)
