@@ -59,7 +59,7 @@ module _ {B : Type 0} (o : Opened B) (s : Seen) (cs : Catalog) (ready : IsReady 
   pub few_pages : length o.kept.pages ≤ 200_000
   few_pages = subst (λ (l : List PageHead). length l ≤ 200_000) (ready_keeps o s cs ready).pages (lengths cs ready.open_for.lawful.lawful).pages
 
-  has_by : (name : List ℕ) (rows : List Row) (pages : ℕ) → rows ≡ o.kept.rows → pages ≡ length o.kept.pages → is_some (doc_at o.base cs name) ≡ has_doc name rows pages
+  pub has_by : (name : List ℕ) (rows : List Row) (pages : ℕ) → rows ≡ o.kept.rows → pages ≡ length o.kept.pages → is_some (doc_at o.base cs name) ≡ has_doc name rows pages
   has_by name rows pages are count =
       doc_by_rows o.base name cs
       ∙ ap₂ (λ (l : List Row) (n : ℕ). has_doc name l n) ((ready_keeps o s cs ready).rows ∙ sym are) (ap length (ready_keeps o s cs ready).pages ∙ sym count)

@@ -1,9 +1,11 @@
 -- What calls leave of an open catalog and of its store.
-use Rattle.std.specs.Prelude.{◌≡◌, ◌⊎◌, List, [], true, false, Option, Result}
-use Rattle.blob_store.specs.Events.{Act}
+use Rattle.std.specs.Prelude.{◌≡◌, ◌⊎◌, ℕ, List, [], ◌∷◌, Bool, true, false, if◌then◌else◌, Option, Result}
+use Rattle.std.specs.Option.{is_some}
+use Rattle.blob_store.specs.Events.{Act, Get}
 use Rattle.blob_store.specs.Seen.{Seen}
 use Rattle.pkg_meta.specs.Catalog.{Catalog}
 use Rattle.pkg_meta.specs.declared.commit.Stored.{Stored}
+use Rattle.catalog_doc.specs.CatDocs.{doc_at}
 use Rattle.catalog_opening.specs.Openings.{KeepsSpelling, Mends}
 use Rattle.catalog_opening.specs.Plans.{RunsReading}
 use Rattle.catalog_opening.specs.Settlings.{settling_plan, with_more}
@@ -37,3 +39,12 @@ IsSettlingPlan o cs acts =
 -- the calls that settle it were made as the result tells
 abbrev pub RunsSettling : {A B : Type 0} → Opened B → Catalog → Seen → Seen → Result A ReadErr → Type 0
 RunsSettling o cs old new result = (acts : List Act) × IsSettlingPlan o cs acts × RunsReading acts old new result
+
+-- the document of this name is got once, where it is there
+abbrev pub doc_gets : Bool → List ℕ → List Act
+doc_gets there name = if there then Get name ∷ [] else []
+
+-- the calls of a read of the document were made as the result tells: it is got where each catalog that is meant has it
+abbrev pub RunsDoc : {A B : Type 0} → Opened B → List ℕ → Seen → Seen → Result A ReadErr → Type 0
+RunsDoc o name old new result = (there : Bool) × ((cs : Catalog) → IsOpenFor o old cs → is_some (doc_at o.base cs name) ≡ there)
+    × RunsReading (doc_gets there name) old new result

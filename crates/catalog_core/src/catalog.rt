@@ -15,7 +15,7 @@ ghost use Rattle.catalog_opening.specs.Settlings.{more_rows, with_more};
 ghost use Rattle.catalog_rows.specs.Kept.{IsKeptOf};
 ghost use Rattle.catalog_items.specs.ByRows.{rows_above};
 ghost use Rattle.catalog_items.specs.Reads.{IsAbsent, IsRead};
-ghost use Rattle.catalog_core.specs.Framing.{RunsSettling, StaysOpen};
+ghost use Rattle.catalog_core.specs.Framing.{RunsDoc, RunsSettling, StaysOpen};
 ghost use Rattle.catalog_core.specs.Opened.{IsOpenFor, IsUnsettled, staged_bytes};
 
 use blob_store::Blobs;
@@ -144,6 +144,8 @@ impl<B: Blobs> Catalog<B> {
     /// The bytes of the catalog's document of this name, or `None` where the catalog has no such document.
     pub fn doc(&mut self, alloc: Global, name: &str) -> Result<Option<Bytes>, ReadErr>
         ensures reads { (cs : List Stored) → IsOpenFor self.old (B.seen self.old.area) cs → IsRead (doc_at self.old.base cs name.now) result }
+        // Settled, the document is got once where the catalog has it, and nothing else is called, of every area.
+        ensures runs { self.old.settled ≡ true → RunsDoc self.old name.now (B.seen self.old.area) (B.seen self.new.area) result }
         ensures stays { StaysOpen self.old self.new (B.seen self.old.area) (B.seen self.new.area) (IsErrOf result ReadErr.Fault) }
         ensures held { (now : Area) → (B.seen self.new.area).held ≡ Some now → IfOk result (λ found. IfSome found (λ bytes. get now name.now ≡ Some bytes)) }
         ensures damaged { (m now : Area) → (B.seen self.old.area).held ≡ Some m → (B.seen self.new.area).held ≡ Some now
