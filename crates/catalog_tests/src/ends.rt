@@ -2,11 +2,11 @@
 use crate::copies::{Document, copied, documents, failing};
 use crate::feeds::{START, empty, one, opened, publish, publishes, told};
 use crate::limits::{PAGES, committed, exchange, page_line};
-use crate::openings::{INDEX, INDEX_OF_NONE, PAGE};
+use crate::openings::{INDEX, INDEX_OF_NONE, PAGE, holds};
 use blob_store::{Blobs, Fail as Fault, MemBlobs};
 use catalog_core::{Catalog, OpenErr, open_catalog};
 use pkg_meta::NoMemory;
-use std::alloc::Global;
+use std::alloc::{AllocError, Global};
 use std::process::Abort;
 use std::test::Fail;
 
@@ -137,17 +137,28 @@ fn stops_at_the_limit_of_an_id(rt: HostRuntime) -> Result<(), Fail> {
     Ok(())
 }
 
-// What one opening answers.
-fn opening_line(alloc: Global, area: MemBlobs) -> Result<(String, MemBlobs), NoMemory> {
-    let (line, area) = match open_catalog(alloc, area, None) {
-        Ok(catalog) => (format!(in alloc; "opened")?, catalog.into_area()),
-        Err((error, area)) => (error_line(alloc, &error)?, area),
-    };
-    Ok((line, area))
+// An open catalog, or why there is none, with its store.
+type Opening = Result<Catalog<MemBlobs>, (OpenErr, MemBlobs)>;
+
+fn line_of(alloc: Global, opening: &Opening) -> Result<String, AllocError> {
+    match opening {
+        Ok(_) => String::from_str(alloc, "opened"),
+        Err((error, _)) => format!(in alloc; "{error}"),
+    }
 }
 
-fn error_line(alloc: Global, error: &OpenErr) -> Result<String, NoMemory> {
-    Ok(format!(in alloc; "{error}")?)
+fn area_of(opening: Opening) -> MemBlobs {
+    match opening {
+        Ok(catalog) => catalog.into_area(),
+        Err((_, area)) => area,
+    }
+}
+
+// What one opening answers, and the store behind it.
+fn opening_line(alloc: Global, area: MemBlobs) -> Result<(String, MemBlobs), NoMemory> {
+    let opening = open_catalog(alloc, area, None);
+    let line = line_of(alloc, &opening)?;
+    Ok((line, area_of(opening)))
 }
 
 // What two openings answer one behind the other of a store that holds these texts, where these of its calls fail.
@@ -162,10 +173,7 @@ fn two_openings(
     let _index = area.put(alloc, "index.json", index.as_bytes());
     let (first, area) = opening_line(alloc, area)?;
     let (second, mut area) = opening_line(alloc, area)?;
-    let mended = match area.get(alloc, "index.json") {
-        Ok(Some(bytes)) => bytes.as_slice() == INDEX.as_bytes(),
-        _ => false,
-    };
+    let mended = holds(alloc, &mut area, "index.json", INDEX);
     Ok(format!(in alloc; "{first}, {second}, {mended}")?)
 }
 

@@ -30,16 +30,21 @@ pub fn opened(alloc: Global, area: MemBlobs) -> Option<Catalog<MemBlobs>> {
     None
 }
 
+// The metadata of a package without more of it.
+fn meta_of(alloc: Global, id: &str, version: &str) -> Result<Meta, NoMemory> {
+    let text = format!(in alloc; "{{\"id\":\"{id}\",\"version\":\"{version}\"}}")?;
+    Meta::read(alloc, text.as_bytes()).ok().ok_or(NoMemory)
+}
+
 /// A publish of a package without more metadata.
 pub fn publish(alloc: Global, id: &str, version: &str) -> Result<Change, NoMemory> {
-    let text = format!(in alloc; "{{\"id\":\"{id}\",\"version\":\"{version}\"}}")?;
-    let Ok(meta) = Meta::read(alloc, text.as_bytes()) else {
-        return Err(NoMemory);
-    };
+    let nuspec = Bytes::copy_of(alloc, b"<package/>")?;
+    let package = Bytes::copy_of(alloc, b"abc")?;
+    let meta = meta_of(alloc, id, version)?;
     Ok(Change::Publish {
         meta,
-        nuspec: Bytes::copy_of(alloc, b"<package/>")?,
-        package: Bytes::copy_of(alloc, b"abc")?,
+        nuspec,
+        package,
     })
 }
 

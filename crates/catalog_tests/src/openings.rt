@@ -54,7 +54,8 @@ fn known_line(alloc: Global, known: &Result<Known, OpenErr>) -> Result<String, A
     }
 }
 
-fn holds(alloc: Global, area: &mut MemBlobs, name: &str, text: &str) -> bool {
+/// Whether the blob of this name is this text.
+pub fn holds(alloc: Global, area: &mut MemBlobs, name: &str, text: &str) -> bool {
     match area.get(alloc, name) {
         Ok(Some(bytes)) => bytes.as_slice() == text.as_bytes(),
         _ => false,

@@ -1,11 +1,12 @@
 // The rows of the first publish, and those of a delete behind them.
 ghost use Rattle.std.specs.Prelude.{◌≡◌, IfOk, length};
 
+use crate::feeds::{one, publish};
 use crate::openings::{INDEX, PAGE, store};
 use catalog_doc::{Change, CommitErr, Row};
 use catalog_opening::read_catalog;
 use catalog_rows::{Rows, shape_refusal};
-use pkg_meta::{Bytes, Many, Meta, NoMemory, PackageId, Ticks, Version};
+use pkg_meta::{Many, NoMemory, PackageId, Ticks, Version};
 use std::alloc::{AllocError, Global};
 use std::test::Fail;
 
@@ -16,52 +17,57 @@ const TOLD: &str = "\
 2 0 2 2 none, 3
 ";
 
-fn publish(alloc: Global) -> Result<Vec<Change>, NoMemory> {
-    let Ok(meta) = Meta::read(alloc, b"{\"id\":\"foo\",\"version\":\"1.0\"}") else {
-        return Err(NoMemory);
-    };
-    let mut changes = Vec::new(alloc);
-    changes.push(Change::Publish {
-        meta,
-        nuspec: Bytes::copy_of(alloc, b"<package/>")?,
-        package: Bytes::copy_of(alloc, b"abc")?,
-    })?;
-    Ok(changes)
-}
-
 fn delete(alloc: Global, id: &PackageId, version: &Version) -> Result<Many<Row>, NoMemory>
     ensures { IfOk result (λ rows. length rows ≡ 1) }
 {
+    let id = id.copy(alloc)?;
+    let version = version.copy(alloc)?;
     let mut rows = Many::new(alloc);
     rows.push(Row {
         number: 2,
         place: 0,
         stamp: Ticks::of(638_396_640_000_000_001).unwrap(),
-        id: id.copy(alloc)?,
-        version: version.copy(alloc)?,
+        id,
+        version,
         gone: true,
     })?;
     Ok(rows)
 }
 
-fn reason(alloc: Global, rows: &Rows, changes: &[Change]) -> Result<String, NoMemory> {
-    let found = match shape_refusal(changes) {
-        Some(error) => Some(error),
-        None => rows.refusal(alloc, changes)?,
-    };
-    match found {
-        Some(CommitErr::Exists(place, number)) => Ok(format!(in alloc; "exists {place} {number}")?),
-        Some(error) => Ok(format!(in alloc; "{error}")?),
-        None => Ok(String::from_str(alloc, "none")?),
+// Why these changes are refused, by their shape or by the rows.
+fn refusal(alloc: Global, rows: &Rows, changes: &[Change]) -> Result<Option<CommitErr>, NoMemory> {
+    match shape_refusal(changes) {
+        Some(error) => Ok(Some(error)),
+        None => rows.refusal(alloc, changes),
     }
 }
 
+fn reason_line(alloc: Global, reason: &Option<CommitErr>) -> Result<String, AllocError> {
+    match reason {
+        Some(CommitErr::Exists(place, number)) => { format!(in alloc; "exists {place} {number}") }
+        Some(error) => format!(in alloc; "{error}"),
+        None => String::from_str(alloc, "none"),
+    }
+}
+
+fn last_number(
+    alloc: Global,
+    rows: &Rows,
+    id: &PackageId,
+    version: &Version,
+) -> Result<u32, NoMemory> {
+    Ok(rows.last(alloc, id, version)?.map_or(0, |row| row.number))
+}
+
 fn line(alloc: Global, rows: &Rows, id: &PackageId, version: &Version) -> Result<String, NoMemory> {
-    let last = rows.last(alloc, id, version)?.map_or(0, |row| row.number);
+    let last = last_number(alloc, rows, id, version)?;
+    let changes = one(alloc, publish(alloc, "foo", "1.0")?)?;
+    let why = reason_line(alloc, &refusal(alloc, rows, changes.as_slice())?)?;
     let (live, count, page) = (rows.live(id), rows.len(), rows.last_page().len());
-    let next = rows.next_number();
-    let why = reason(alloc, rows, &publish(alloc)?)?;
-    Ok(format!(in alloc; "{last} {live} {count} {page} {why}, {next}\n")?)
+    Ok(format!(in alloc;
+        "{last} {live} {count} {page} {why}, {}\n",
+        rows.next_number()
+    )?)
 }
 
 #[test]
@@ -84,6 +90,7 @@ fn rows_follow_commits(rt: HostRuntime) -> Result<(), Fail> {
 #[test]
 fn no_changes_are_refused(rt: HostRuntime) -> Result<(), Fail> {
     assert!(rt; shape_refusal(&[]).is_some());
-    assert!(rt; shape_refusal(&publish(rt.alloc())?).is_none());
+    let changes = one(rt.alloc(), publish(rt.alloc(), "foo", "1.0")?)?;
+    assert!(rt; shape_refusal(changes.as_slice()).is_none());
     Ok(())
 }

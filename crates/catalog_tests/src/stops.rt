@@ -2,9 +2,9 @@
 use crate::copies::failing;
 use crate::feeds::{START, delete, empty, one, opened, publish, told, unlisting};
 use blob_store::{Fail as Fault, MemBlobs};
-use catalog_core::{Catalog, Changes, Row};
+use catalog_core::{Catalog, Changes, ReadErr, Row};
 use pkg_meta::{Item, Many, NoMemory};
-use std::alloc::Global;
+use std::alloc::{AllocError, Global};
 use std::test::Fail;
 
 const INDEX_OF_TWO: &str =
@@ -12,10 +12,12 @@ const INDEX_OF_TWO: &str =
 
 // Publishes Foo 1.0.0 and then Bar 1.0.0, and tells what the second commit was answered.
 fn two_publishes(alloc: Global, catalog: &mut Catalog<MemBlobs>) -> Result<String, NoMemory> {
-    let first = one(alloc, publish(alloc, "Foo", "1.0.0")?)?;
-    let _line = told(alloc, catalog, &first, START)?;
-    let second = one(alloc, publish(alloc, "Bar", "1.0.0")?)?;
-    Ok(told(alloc, catalog, &second, START)?)
+    let mut line = String::new(alloc);
+    for id in &["Foo", "Bar"] {
+        let changes = one(alloc, publish(alloc, id, "1.0.0")?)?;
+        line = told(alloc, catalog, &changes, START)?;
+    }
+    Ok(line)
 }
 
 // The opening's two calls, and each publish's five: the second one's index is the twelfth.
@@ -57,20 +59,25 @@ fn second_list(alloc: Global) -> Result<Changes, NoMemory> {
     Ok(changes)
 }
 
+// Whether an item is listed.
+fn kind_of(item: &Result<Item, ReadErr>) -> &'static str {
+    match item {
+        Ok(Item::Details(details)) if details.listed => "listed",
+        Ok(Item::Details(_)) => "unlisted",
+        Ok(Item::Gone { .. }) => "deleted",
+        Err(_) => "not read",
+    }
+}
+
 // The item of a row: its place, its id, and whether it is listed.
 fn item_line(
     alloc: Global,
     catalog: &mut Catalog<MemBlobs>,
     row: &Row,
-) -> Result<String, NoMemory> {
-    let (number, place, id) = (row.number, row.place, row.id.text.as_str());
-    let kind = match catalog.leaf(alloc, number, place) {
-        Ok(Item::Details(details)) if details.listed => "listed",
-        Ok(Item::Details(_)) => "unlisted",
-        Ok(Item::Gone { .. }) => "deleted",
-        Err(_) => "not read",
-    };
-    Ok(format!(in alloc; "{number}/{place} {id} {kind}\n")?)
+) -> Result<String, AllocError> {
+    let kind = kind_of(&catalog.leaf(alloc, row.number, row.place));
+    let id = row.id.text.as_str();
+    format!(in alloc; "{}/{} {id} {kind}\n", row.number, row.place)
 }
 
 // All items of a catalog, by its rows.

@@ -53,11 +53,9 @@ fn bytes(alloc: Global, random: &mut Random) -> Result<Bytes, NoMemory> {
 
 fn publish(alloc: Global, random: &mut Random) -> Result<Change, NoMemory> {
     let text = metadata(alloc, random)?;
-    let Ok(meta) = Meta::read(alloc, text.as_bytes()) else {
-        return Err(NoMemory);
-    };
     let nuspec = bytes(alloc, random)?;
     let package = bytes(alloc, random)?;
+    let meta = Meta::read(alloc, text.as_bytes()).ok().ok_or(NoMemory)?;
     Ok(Change::Publish {
         meta,
         nuspec,

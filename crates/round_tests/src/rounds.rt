@@ -16,26 +16,30 @@ pub fn moment() -> Ticks {
     Ticks::of(638_396_640_000_000_000).unwrap()
 }
 
-pub fn publish(alloc: Global, minor: u32) -> Result<Change, NoMemory> {
+fn meta_of(alloc: Global, minor: u32) -> Result<Meta, NoMemory> {
     let text = format!(in alloc; "{{\"id\":\"Foo\",\"version\":\"1.{minor}.0\"}}")?;
-    let Ok(meta) = Meta::read(alloc, text.as_bytes()) else {
-        return Err(NoMemory);
-    };
+    Meta::read(alloc, text.as_bytes()).ok().ok_or(NoMemory)
+}
+
+pub fn publish(alloc: Global, minor: u32) -> Result<Change, NoMemory> {
+    let nuspec = Bytes::copy_of(alloc, b"<package/>")?;
+    let package = Bytes::copy_of(alloc, b"abc")?;
+    let meta = meta_of(alloc, minor)?;
     Ok(Change::Publish {
         meta,
-        nuspec: Bytes::copy_of(alloc, b"<package/>")?,
-        package: Bytes::copy_of(alloc, b"abc")?,
+        nuspec,
+        package,
     })
 }
 
-pub fn delete(alloc: Global, minor: u32) -> Result<Change, NoMemory> {
+fn version_of(alloc: Global, minor: u32) -> Result<Version, NoMemory> {
     let text = format!(in alloc; "1.{minor}.0")?;
-    let (Some(id), Some(version)) = (
-        PackageId::read(alloc, "foo")?,
-        Version::read(alloc, text.as_str())?,
-    ) else {
-        return Err(NoMemory);
-    };
+    Version::read(alloc, text.as_str())?.ok_or(NoMemory)
+}
+
+pub fn delete(alloc: Global, minor: u32) -> Result<Change, NoMemory> {
+    let version = version_of(alloc, minor)?;
+    let id = PackageId::read(alloc, "foo")?.ok_or(NoMemory)?;
     Ok(Change::Delete { id, version })
 }
 
