@@ -190,7 +190,8 @@ module _ {B : Type 0} (m : Members B) (hive : HiveName) (stores : Stores B) (bas
       (subst (λ (b : List ℕ). RoundOver (hive_fold hive b) over.opened over.left (m.seen over.opened.area) later Old new (Err (stop.Damaged text))) at.0
       over.made.round)
 
-  round_refused : (later new : Seen) (Unread Lost : List ℕ → Type 0) (answer : Answer) → RoundTold (MadeOver m hive Before later Old new) Unread Lost hive answer
+  round_refused : (later new : Seen) (Unread Lost : List ℕ → Type 0) (answer : Answer)
+      → RoundTold (MadeOver m hive Before later Old new) Unread Lost hive answer
       → answer_status answer ≡ 3 → ⊥
   round_refused later new Unread Lost (Reply (line.Done which n)) is three = omega (arith, three)
   round_refused later new Unread Lost (Reply (line.Idle which n)) is three = omega (arith, three)
@@ -199,7 +200,8 @@ module _ {B : Type 0} (m : Members B) (hive : HiveName) (stores : Stores B) (bas
   round_refused later new Unread Lost (Reply line.Memory) is three = omega (arith, three)
   round_refused later new Unread Lost _ is three = is
 
-  round_whole : (later new : Seen) (Unread Lost : List ℕ → Type 0) (answer : Answer) → RoundTold (MadeOver m hive Before later Old new) Unread Lost hive answer
+  round_whole : (later new : Seen) (Unread Lost : List ℕ → Type 0) (answer : Answer)
+      → RoundTold (MadeOver m hive Before later Old new) Unread Lost hive answer
       → answer_status answer ≡ 6 → ⊥
   round_whole later new Unread Lost (Reply (line.Damaged area.Catalog name)) is six = none_told later new (in_catalog name) is.1
   round_whole later new Unread Lost (Reply (line.Damaged (area.Hive which) name)) is six = none_told later new (in_hive is.2.0 name) is.2.1

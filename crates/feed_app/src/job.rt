@@ -47,7 +47,8 @@ fn job_of<B: Blobs>(
     hive: HiveName,
 ) -> Answer
     ensures is { RoundAnswers (hive_fold hive catalog.old.base) catalog.old catalog.new (B.seen catalog.old.area) (B.seen catalog.new.area)
-        (B.seen (by_hive_name plain.old semver2.old content.old auto.old hive)) (B.seen (by_hive_name plain.new semver2.new content.new auto.new hive)) hive result }
+        (B.seen (by_hive_name plain.old semver2.old content.old auto.old hive)) (B.seen (by_hive_name plain.new semver2.new content.new auto.new hive))
+        hive result }
     ensures stays { StaysOpen catalog.old catalog.new (B.seen catalog.old.area) (B.seen catalog.new.area)
         (result ≡ Answer.Reply (Line.Fault AreaName.Catalog)) }
     ensures hive_cause { result ≡ Answer.Reply (Line.Fault (AreaName.Hive hive))

@@ -56,7 +56,8 @@ row_held : (m : Area) (base : List ℕ) (rows : List Row) (items : List Item) (n
 row_held m base [] items number place row held values is = absurd (let no : ⊥ = cc in no)
 row_held m base (x ∷ rows) [] number place row held values is = absurd held
 row_held m base (x ∷ rows) (it ∷ items) number place row held values is =
-    elim (is_at number place x) as (λ (b : Bool). cond b (Some x) (row_with number place rows) ≡ Some row → (jt : Item) × IsItemValue jt × HoldsLeaf m base row jt) [
+    elim (is_at number place x) as
+    (λ (b : Bool). cond b (Some x) (row_with number place rows) ≡ Some row → (jt : Item) × IsItemValue jt × HoldsLeaf m base row jt) [
       | true ↦ λ here. let same : x ≡ row = cc in (it, values.0, subst (λ (r : Row). HoldsLeaf m base r it) same held.0)
       | false ↦ λ there. row_held m base rows items number place row held.1 values.1 there
     ] is
@@ -90,7 +91,8 @@ module _ (m : Area) (base : List ℕ) (cs : Catalog) (catalog : IsCatalog cs) (s
   file_held number place true some none =
       let b = brought_of cs number place true catalog.lawful.commits some in
       let held : get m (nuspec_name number place) ≡ Some b.brought.nuspec =
-      subst (λ (n : ℕ). get m (nuspec_name n place) ≡ Some b.brought.nuspec) b.number_is ((spells.commits b.commit b.within).nuspecs place b.brought b.stands) in
+      subst (λ (n : ℕ). get m (nuspec_name n place) ≡ Some b.brought.nuspec) b.number_is
+      ((spells.commits b.commit b.within).nuspecs place b.brought b.stands) in
       let no : ⊥ = cc in no
   file_held number place false some none =
       let b = brought_of cs number place false catalog.lawful.commits some in
@@ -152,7 +154,8 @@ module _ (m : Area) (base : List ℕ) (cs : Catalog) (catalog : IsCatalog cs) (s
           → IsNextToRead f Q c target rows rest (Some hive) reads → AllFound m reads
       next_found [] hive reads sound items none = subst (AllFound m) (sym none) tt
       next_found (key ∷ rest) hive reads sound items (inl none) = subst (AllFound m) (sym none) tt
-      next_found (key ∷ rest) hive reads sound items (inr (p, same, inl (stored, are))) = subst (AllFound m) (sym are) (behind_found (at_in p.stored) (own_rows c rows p.key))
+      next_found (key ∷ rest) hive reads sound items (inr (p, same, inl (stored, are))) =
+          subst (AllFound m) (sym are) (behind_found (at_in p.stored) (own_rows c rows p.key))
       next_found (key ∷ rest) hive reads sound items (inr (p, same, inr (takes, are))) =
           let item : c < touched_by cs p.key (length cs) = subst (λ (k : List ℕ). c < touched_by cs k (length cs)) (sym same) (items key (first key rest)) in
           subst (AllFound m) (sym are) (pass_found p hive sound item takes)
@@ -180,6 +183,7 @@ module _ (m : Area) (base : List ℕ) (cs : Catalog) (catalog : IsCatalog cs) (s
             both_found (passes_reads n rows passes) reads
                 (subst (λ (k : ℕ). AllFound m (passes_reads k rows passes)) (sym e)
                 (passes_found target ends passes hive on.sound (λ j is. items j (contains_left j (keys_in passes) rest is)) every))
-                (next_found target ends rest (after_plan (passes_plan passes) hive) reads sound (λ j is. items j (contains_right j (keys_in passes) rest is)) more),
+                (next_found target ends rest (after_plan (passes_plan passes) hive) reads sound
+                (λ j is. items j (contains_right j (keys_in passes) rest is)) more),
             halts,
           )
