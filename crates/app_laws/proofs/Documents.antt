@@ -71,7 +71,7 @@ module _ {B : Type 0} (m : Members B) (hive : ServedHive) (path name : List ℕ)
   of_get given catalog later base cs status has (inl (closed, same)) other own no4 no8 = absurd (⊎_elim
       (λ no3. closed_not given answer catalog later closed base cs has status own no3 no4 no8)
       (λ may. closed_store given answer catalog later closed base cs has may status own no4 no8) other)
-  of_get given catalog later base cs status has (inr (may, reads)) other own no4 no8 =
+  of_get given catalog later base cs status has (inr (may, reads, calls)) other own no4 no8 =
       ⊎_elim (λ is. is) (λ memory. absurd (no8 (sym own ∙ ap answer_status memory))) (of_path catalog reads)
 
 -- a document, or none

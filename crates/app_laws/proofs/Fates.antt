@@ -91,13 +91,13 @@ module _ {B I O C : Type 0} (b : Bounds B I O C) (words : List (List ℕ)) (befo
         holds.sound.1 holds.sound.2 (base_of words) run.answer
         (λ same. unmoved b.blobs Old New holds.sound.0 (IsSoundOrSettled (hive_fold hive base) cs c) sure holds.sound.1 (inl holds.sound.2) same) its.acts
 
-    cursor_answer : Cursors (base_of words) hive run.answer (b.blobs.seen before.stores.catalog) (b.blobs.seen after.stores.catalog) (New ≡ Old) (held b.blobs Old)
+    cursor_answer : Cursors (base_of words) hive run.answer (b.blobs.seen before.stores.catalog) (b.blobs.seen after.stores.catalog) (New ≡ Old) (b.blobs.seen Old) (b.blobs.seen New)
         → answer_status run.answer ≡ 0
         → run.answer ≡ Reply (line.Cursor hive c)
     cursor_answer (inl (closed, same)) zero =
         absurd (closed_not (base_of words) run.answer (b.blobs.seen before.stores.catalog) (b.blobs.seen after.stores.catalog) closed base cs holds.catalog 0 zero
         (λ e. omega (arith, e)) (λ e. omega (arith, e)) (λ e. omega (arith, e)))
-    cursor_answer (inr (may, is)) zero =
+    cursor_answer (inr (may, is, calls)) zero =
         let told = told_cursor hive run.answer holds.sound.0 (subst (λ (h : Option Area). TellsCursor hive run.answer h) holds.sound.1 is) zero in
         let sound = holds.sound.2.1 in
         told.1 ∙ ap (λ (n : ℕ). Reply (line.Cursor hive n))

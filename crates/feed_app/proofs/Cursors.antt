@@ -80,10 +80,10 @@ module _ {B : Type 0} (m : Members B) (hive : HiveName) (before after : Sight B)
   tells_explains _ same other is = absurd is
 
   explains : (given : Option (List ℕ)) (now : Seen) (answer : Answer) (untouched : Type 0) → Left ≡ Held → CatalogCause answer → HiveCause answer
-      → Cursors given hive answer Told now untouched Held → Explained answer
+      → Cursors given hive answer Told now untouched (m.seen (area_of before.stores (area.Hive hive))) (m.seen (area_of after.stores (area.Hive hive))) → Explained answer
   explains given now answer untouched same rose other (inl (closed, kept)) =
       closed_explains m (cursor_reach hive) before after given now answer (cursor_touches hive).0 rose closed
-  explains given now answer untouched same rose other (inr (may, tells)) = tells_explains answer same other tells
+  explains given now answer untouched same rose other (inr (may, tells, calls)) = tells_explains answer same other tells
 
   -- the cursor of a hive was asked for
   pub cursor_done : (answer : Answer) → KeepsAreas m (cursor_reach hive) before.stores after.stores → Left ≡ Held → CatalogCause answer → HiveCause answer
@@ -114,28 +114,30 @@ module _ (hive : HiveName) (told : Option Area) (blobs : Area) (kept : told ≡ 
 abbrev IsReady : Option (List ℕ) → Seen → Option Area → Type 0
 IsReady given told area = MayOpen given told × Shows told.held HoldsCatalog × Shows area (λ blobs. (n : ℕ) × IsCursor (get blobs cursor_name) n)
 
-module _ (given : Option (List ℕ)) (hive : HiveName) (told later : Seen) (area : Option Area) (untouched : Type 0) (ready : IsReady given told area) where
+module _ (given : Option (List ℕ)) (hive : HiveName) (told later : Seen) (old new : Seen) (untouched : Type 0) (ready : IsReady given told old.held) where
   abbrev its : HoldsCatalog ready.1.0
   its = ready.1.2
 
   its_catalog : HasCatalog told its.0 its.1
   its_catalog = record { lawful = its.2; store = (ready.1.0, ready.1.1, its.3) }
 
-  refused : (answer : Answer) → Cursors given hive answer told later untouched area → answer_status answer ≡ 3 → ⊥
+  refused : (answer : Answer) → Cursors given hive answer told later untouched old new → answer_status answer ≡ 3 → ⊥
   refused answer (inl (closed, same)) three =
       closed_store given answer told later closed its.0 its.1 its_catalog ready.0 3 three (λ e. omega (arith, e)) (λ e. omega (arith, e))
-  refused answer (inr (may, tells)) three = not_refused hive area ready.2.0 ready.2.1 ready.2.2.0 ready.2.2.1 answer tells three
+  refused answer (inr (may, tells, calls)) three = not_refused hive old.held ready.2.0 ready.2.1 ready.2.2.0 ready.2.2.1 answer tells three
 
-  sound : (answer : Answer) → Cursors given hive answer told later untouched area → answer_status answer ≡ 6 → ⊥
+  sound : (answer : Answer) → Cursors given hive answer told later untouched old new → answer_status answer ≡ 6 → ⊥
   sound answer (inl (closed, same)) six =
       closed_store given answer told later closed its.0 its.1 its_catalog ready.0 6 six (λ e. omega (arith, e)) (λ e. omega (arith, e))
-  sound answer (inr (may, tells)) six = not_damaged hive area ready.2.0 ready.2.1 ready.2.2.0 ready.2.2.1 answer tells six
+  sound answer (inr (may, tells, calls)) six = not_damaged hive old.held ready.2.0 ready.2.1 ready.2.2.0 ready.2.2.1 answer tells six
 
 pub cursor_accepts : {B : Type 0} (m : Members B) (hive : HiveName) → Accepts (cursor_meaning m hive)
 cursor_accepts m hive = record {
   refused = λ before after answer ready acts.
-      refused before.given hive (m.seen before.stores.catalog) (m.seen after.stores.catalog) (held m (area_of before.stores (area.Hive hive))) _ ready answer acts;
+      refused before.given hive (m.seen before.stores.catalog) (m.seen after.stores.catalog) (m.seen (area_of before.stores (area.Hive hive)))
+      (m.seen (area_of after.stores (area.Hive hive))) _ ready answer acts;
   sound = λ before after answer ready acts.
-      sound before.given hive (m.seen before.stores.catalog) (m.seen after.stores.catalog) (held m (area_of before.stores (area.Hive hive))) _ ready answer acts;
+      sound before.given hive (m.seen before.stores.catalog) (m.seen after.stores.catalog) (m.seen (area_of before.stores (area.Hive hive)))
+      (m.seen (area_of after.stores (area.Hive hive))) _ ready answer acts;
   fits = λ before ready touched. absurd (cursor_unread hive touched);
 }

@@ -65,12 +65,12 @@ module _ {B : Type 0} (m : Members B) (path : List ℕ) (before after : Sight B)
       → Gets m given answer path Told now old new → Explained answer
   explains given now answer old new rose other (inl (closed, same)) =
       closed_explains m (get_meaning m path).reach before after given now answer tt rose closed
-  explains given now answer old new rose other (inr (may, inl (hive, rest, names, is, others))) = hive_explains hive answer rest (held m (old hive)) names other is
-  explains given now answer old new rose other (inr (may, inr (same, inl (name, names, is)))) = catalog_explains answer name rose is
-  explains given now answer old new rose other (inr (may, inr (same, inr (inl (names, (bytes, is, texts)))))) = subst Explained (sym is) tt
-  explains given now answer old new rose other (inr (may, inr (same, inr (inr (inl server))))) = subst Explained (sym server.1) tt
-  explains given now answer old new rose other (inr (may, inr (same, inr (inr (inr (inl unknown)))))) = subst Explained (sym unknown.1) tt
-  explains given now answer old new rose other (inr (may, inr (same, inr (inr (inr (inr memory)))))) = subst Explained (sym memory) tt
+  explains given now answer old new rose other (inr (may, inl (hive, rest, names, is, others), calls)) = hive_explains hive answer rest (held m (old hive)) names other is
+  explains given now answer old new rose other (inr (may, inr (same, inl (name, names, is)), calls)) = catalog_explains answer name rose is
+  explains given now answer old new rose other (inr (may, inr (same, inr (inl (names, (bytes, is, texts)))), calls)) = subst Explained (sym is) tt
+  explains given now answer old new rose other (inr (may, inr (same, inr (inr (inl server))), calls)) = subst Explained (sym server.1) tt
+  explains given now answer old new rose other (inr (may, inr (same, inr (inr (inr (inl unknown)))), calls)) = subst Explained (sym unknown.1) tt
+  explains given now answer old new rose other (inr (may, inr (same, inr (inr (inr (inr memory)))), calls)) = subst Explained (sym memory) tt
 
 of_as : (answer : Answer) (name : List ℕ) (Is Are : Of) → ((base : List ℕ) (cs : Catalog) → Are base cs → Is base cs) → OfCatalog answer name Is
     → OfCatalog answer name Are
@@ -174,13 +174,13 @@ module _ {B : Type 0} (m : Members B) (path bytes : List ℕ) (before after : Si
 
   pub catalog_held : May → HasCatalogDocument path bytes (held m before.stores.catalog) → Acts → IsGood area.Catalog bytes answer
   catalog_held may has (inl closed) = let holds = has.2.2 in closed_held may (has.2.0, has.2.1, (holds.0, holds.1, holds.2, holds.3)) closed.0
-  catalog_held may has (inr (allowed, reads)) =
+  catalog_held may has (inr (allowed, reads, calls)) =
       by_catalog m answer path bytes (m.seen before.stores.catalog) (hive_stores before.stores)
       (hive_stores after.stores) has.0 has.2.0 has.2.1 has.2.2 has.1 reads
 
   pub index_held : May → HasIndex path bytes (held m before.stores.catalog) → Acts → IsGood area.Catalog bytes answer
   index_held may has (inl closed) = let holds = has.1.2 in closed_held may (has.1.0, has.1.1, (holds.0, holds.1, holds.2, holds.3)) closed.0
-  index_held may has (inr (allowed, reads)) =
+  index_held may has (inr (allowed, reads, calls)) =
       by_index m answer path bytes (m.seen before.stores.catalog) (hive_stores before.stores)
       (hive_stores after.stores) has.1.0 has.1.1 has.1.2 has.0 reads
 
@@ -188,7 +188,7 @@ module _ {B : Type 0} (m : Members B) (path bytes : List ℕ) (before after : Si
       (held m (hive_stores before.stores hive)) → Acts
       → IsGood area.Catalog bytes answer ⊎ IsGood (hive_area hive) bytes answer
   hive_held may hive has (inl closed) = inl (closed_held may has.2 closed.0)
-  hive_held may hive has (inr (allowed, reads)) =
+  hive_held may hive has (inr (allowed, reads, calls)) =
       inr (by_name m answer path bytes (m.seen before.stores.catalog) (hive_stores before.stores)
       (hive_stores after.stores) hive has.0 has.3.0 has.3.1 has.3.2 has.1 reads)
 

@@ -1,5 +1,6 @@
 pub mod Absent
 pub mod Asked
+pub mod Behind
 pub mod BlobTexts
 pub mod Calls
 pub mod Closed

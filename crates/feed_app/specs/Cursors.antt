@@ -1,7 +1,8 @@
 -- The command `cursor`.
-use Rattle.std.specs.Prelude.{◌≡◌, ◌⊎◌, ℕ, List, Option, IfSome, ⊤}
+use Rattle.std.specs.Prelude.{◌≡◌, ◌⊎◌, ℕ, List, [], ◌∷◌, Option, IfSome, ⊤}
 use Rattle.std.specs.FinMap.{get}
 use Rattle.blob_store.specs.Area.{Area}
+use Rattle.blob_store.specs.Events.{Get}
 use Rattle.blob_store.specs.Seen.{Seen}
 use Rattle.cursor_doc.specs.Cursor.{cursor_name}
 use Rattle.fold_core.specs.declared.hive.HiveName.{HiveName}
@@ -9,6 +10,7 @@ use Rattle.fold_core.specs.declared.hive.HiveName.TheVariants.{Plain, SemVer2, C
 use Rattle.job_round.specs.Cursors.{IsCursor, IsNoCursor}
 use Rattle.admin_wire.specs.declared.area.AreaName.TheVariants as area
 use Rattle.admin_wire.specs.declared.line.Line.TheVariants as line
+use Rattle.feed_app.specs.Calls.{OpensAlone, RunsBehind}
 use Rattle.feed_app.specs.Frame.{Meaning, Reach, Asks, Opens, nothing}
 use Rattle.feed_app.specs.Openings.{MayOpen, NotOpened}
 use Rattle.feed_app.specs.Outside.{Members, Shows, area_of, held}
@@ -25,10 +27,15 @@ TellsCursor hive (Reply (line.Fault (area.Hive which))) held = which ≡ hive
 TellsCursor hive (Reply line.Memory) held = ⊤
 TellsCursor hive _ held = ⊥
 
+-- the calls of a `cursor` that opened a catalog: on the catalog's area those of the opening alone, on the hive's one get, of the cursor
+pub record CursorCalls (answer : Answer) (catalog later old new : Seen) : Type 0 where
+  pub opening : OpensAlone catalog later
+  pub hive : RunsBehind [] (Get cursor_name ∷ []) answer old new
+
 -- what a `cursor` answers: of an area that opens no catalog, or of one that is open
-abbrev pub Cursors : Option (List ℕ) → HiveName → Answer → (catalog later : Seen) → Type 0 → Option Area → Type 0
-Cursors given hive answer catalog later untouched held =
-    (NotOpened given answer catalog later × untouched) ⊎ (MayOpen given catalog × TellsCursor hive answer held)
+abbrev pub Cursors : Option (List ℕ) → HiveName → Answer → (catalog later : Seen) → Type 0 → (old new : Seen) → Type 0
+Cursors given hive answer catalog later untouched old new = (NotOpened given answer catalog later × untouched)
+    ⊎ (MayOpen given catalog × TellsCursor hive answer old.held × CursorCalls answer catalog later old new)
 
 -- it opens the catalog and asks the hive's area
 abbrev pub cursor_reach : HiveName → Reach
@@ -45,5 +52,6 @@ cursor_meaning m hive = record {
       × Shows (held m (area_of before.stores (area.Hive hive))) (λ blobs. (n : ℕ) × IsCursor (get blobs cursor_name) n);
   acts = λ before answer after.
       let old = area_of before.stores (area.Hive hive) in
-      Cursors before.given hive answer (m.seen before.stores.catalog) (m.seen after.stores.catalog) (area_of after.stores (area.Hive hive) ≡ old) (held m old);
+      let new = area_of after.stores (area.Hive hive) in
+      Cursors before.given hive answer (m.seen before.stores.catalog) (m.seen after.stores.catalog) (new ≡ old) (m.seen old) (m.seen new);
 }

@@ -1,14 +1,18 @@
 -- The command `get`. The conditions of an answer hold those of the steps before it: the opening of the catalog, and what
 -- the path names.
-use Rattle.std.specs.Prelude.{◌≡◌, ◌⊎◌, ℕ, List, Option, Some, None, IfSome, if◌then◌else◌, nat_eq, ⊤}
+use Rattle.std.specs.Prelude.{◌≡◌, ◌⊎◌, ℕ, List, [], ◌∷◌, Option, Some, None, IfSome, if◌then◌else◌, nat_eq, ⊤}
 use Rattle.std.specs.FinMap.{get}
 use Rattle.std.specs.List.{starts_with}
+use Rattle.std.specs.Option.{is_some}
 use Rattle.blob_store.specs.Area.{Area}
+use Rattle.blob_store.specs.Events.{Get}
 use Rattle.blob_store.specs.Seen.{Seen}
 use Rattle.pkg_meta.specs.Catalog.{Catalog}
 use Rattle.catalog_doc.specs.CatDocs.{doc_at}
 use Rattle.catalog_doc.specs.Catalogs.{IsCatalog}
 use Rattle.catalog_doc.specs.Spelled.{SpellsCatalog}
+use Rattle.catalog_core.specs.Framing.{doc_gets}
+use Rattle.feed_app.specs.Calls.{OpensAlone, OpensWith, RunsBehind}
 use Rattle.feed_app.specs.Hives.{served_under}
 use Rattle.feed_routes.specs.Cuts.{target_path}
 use Rattle.feed_routes.specs.Index.{service_index_text}
@@ -73,10 +77,21 @@ AnswersPath m answer path Is old new =
     ⊎ ((IsUnknown path × (answer ≡ Reply (line.Refused refusal.Missing)))
     ⊎ (answer ≡ Reply line.Memory))))))
 
+-- the calls of a `get` that opened a catalog, by what its path asks for
+pub record GetCalls {B : Type 0} (m : Members B) (answer : Answer) (path : List ℕ) (catalog later : Seen) (old new : ServedHive → B) : Type 0 where
+  -- a document of the catalog: behind the opening's it is got once, where the catalog has it
+  pub document : (name : List ℕ) → IsCatalogPath path name
+      → OpensWith (λ base cs. doc_gets (is_some (doc_at base cs name)) name) answer catalog later
+  -- anything else: those of the opening alone on the catalog's area
+  pub alone : ((name : List ℕ) → IsCatalogPath path name → ⊥) → OpensAlone catalog later
+  -- a document of a hive: one get of that name on the hive's area
+  pub hive : (hive : ServedHive) (name : List ℕ) → IsHivePath hive path name
+      → RunsBehind [] (Get name ∷ []) answer (m.seen (old hive)) (m.seen (new hive))
+
 -- what a `get` answers: of an area that opens no catalog, or of one that is open
 abbrev pub Gets : {B : Type 0} → Members B → Option (List ℕ) → Answer → List ℕ → (catalog later : Seen) → (ServedHive → B) → (ServedHive → B) → Type 0
-Gets m given answer path catalog later old new =
-    (NotOpened given answer catalog later × KeepsAll old new) ⊎ (MayOpen given catalog × AnswersPath m answer path (HasCatalog catalog) old new)
+Gets m given answer path catalog later old new = (NotOpened given answer catalog later × KeepsAll old new)
+    ⊎ (MayOpen given catalog × AnswersPath m answer path (HasCatalog catalog) old new × GetCalls m answer path catalog later old new)
 
 -- the area spells a catalog that has this document
 abbrev pub HoldsDocument : Area → List ℕ → List ℕ → Type 0

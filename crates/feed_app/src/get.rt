@@ -1,24 +1,28 @@
 // The command `get`.
-ghost use Rattle.std.specs.Prelude.{◌≡◌, ◌⊎◌, ℕ, List, Option, option_map};
+ghost use Rattle.std.specs.Prelude.{◌≡◌, ◌⊎◌, ◌∷◌, [], ℕ, List, Option, option_map};
+ghost use Rattle.std.specs.Option.{is_some};
+ghost use Rattle.blob_store.specs.Events.{Get};
 ghost use Rattle.feed_base.specs.Counts.{HasRisen};
 ghost use Rattle.pkg_meta.specs.declared.commit.Stored.{Stored};
 ghost use Rattle.catalog_doc.specs.CatDocs.{doc_at};
-ghost use Rattle.catalog_core.specs.Framing.{StaysOpen};
-ghost use Rattle.catalog_core.specs.Opened.{IsOpenFor};
+ghost use Rattle.catalog_core.specs.Framing.{StaysOpen, doc_gets};
+ghost use Rattle.catalog_core.specs.Opened.{IsOpenFor, IsReady};
 ghost use Rattle.feed_routes.specs.Cuts.{target_path};
 ghost use Rattle.feed_routes.specs.Index.{service_index_text};
 ghost use Rattle.feed_app.specs.declared.hives.ServedHive.{ServedHive};
+ghost use Rattle.feed_app.specs.Calls.{RunsBehind};
 ghost use Rattle.feed_app.specs.Frame.{IsDone, KeepsArea};
 ghost use Rattle.feed_app.specs.Gets.{IsOfCatalog, OfDocument, OfHive, AnswersPath, asked_under, get_meaning};
 ghost use Rattle.feed_app.specs.Hives.{KeepsOthers, by_hive, hive_area};
 ghost use Rattle.feed_app.specs.Outside.{AreaRose, Stream, held, over};
 ghost use Rattle.feed_app.specs.Spelled.{IsOpenAs};
+ghost use Rattle.feed_app.specs.Targets.{IsCatalogPath, IsHivePath};
 
 use crate::answer::Answer;
 use crate::hives::{ServedHive, hive_name};
 use crate::target::{Target, target_of};
 use admin_wire::{AreaName, Line, Refusal};
-use blob_store::{BlobErr, Blobs};
+use blob_store::{BlobErr, Blobs, get_one};
 use catalog_core::{Catalog, Stores, open_catalog};
 use feed_routes::service_index;
 use pkg_meta::NoMemory;
@@ -31,6 +35,8 @@ fn catalog_document<B: Blobs>(alloc: Global, catalog: &mut Catalog<B>, name: &st
     ensures stays { StaysOpen catalog.old catalog.new (B.seen catalog.old.area) (B.seen catalog.new.area)
         (result ≡ Answer.Reply (Line.Fault AreaName.Catalog)) }
     ensures other { (hive : ServedHive) → result ≡ Answer.Reply (Line.Fault (hive_area hive)) → ⊥ }
+    ensures runs { (cs : List Stored) → IsReady catalog.old (B.seen catalog.old.area) cs
+        → RunsBehind [] (doc_gets (is_some (doc_at catalog.old.base cs name.now)) name.now) result (B.seen catalog.old.area) (B.seen catalog.new.area) }
 {
     match catalog.doc(alloc, name) {
         Ok(Some(bytes)) => Answer::Document(bytes),
@@ -53,9 +59,10 @@ fn index_document(alloc: Global, base: &str) -> Answer
 fn hive_document<B: Blobs>(alloc: Global, area: &mut B, hive: ServedHive, name: &str) -> Answer
     ensures is { OfHive hive result name.now (B.seen area.old).held }
     ensures cause { result ≡ Answer.Reply (Line.Fault (hive_area hive)) → HasRisen (B.seen area.old).faults (B.seen area.new).faults }
+    ensures runs { RunsBehind [] (Get name.now ∷ []) result (B.seen area.old) (B.seen area.new) }
     ensures same { (B.seen area.new).held ≡ (B.seen area.old).held }
 {
-    match area.get(alloc, name) {
+    match get_one(alloc, area, name) {
         Ok(Some(bytes)) => Answer::Document(bytes),
         Ok(None) => Answer::Reply(Line::Refused(Refusal::Missing)),
         Err(BlobErr::Failed) => Answer::Reply(Line::Fault(AreaName::Hive(hive_name(hive)))),
@@ -75,6 +82,8 @@ fn from_hive<B: Blobs>(
     ensures is { OfHive hive result name.now (held B.Blobs (by_hive plain.old semver2.old content.old hive)) }
     ensures cause { result ≡ Answer.Reply (Line.Fault (hive_area hive))
         → AreaRose B.Blobs (by_hive plain.old semver2.old content.old hive) (by_hive plain.new semver2.new content.new hive) }
+    ensures runs { RunsBehind [] (Get name.now ∷ []) result (B.seen (by_hive plain.old semver2.old content.old hive))
+        (B.seen (by_hive plain.new semver2.new content.new hive)) }
     ensures same { held B.Blobs (by_hive plain.new semver2.new content.new hive) ≡ held B.Blobs (by_hive plain.old semver2.old content.old hive) }
     ensures others { KeepsOthers hive (by_hive plain.old semver2.old content.old) (by_hive plain.new semver2.new content.new) }
 {
@@ -100,6 +109,11 @@ fn document<B: Blobs>(
         (result ≡ Answer.Reply (Line.Fault AreaName.Catalog)) }
     ensures hive_cause { (hive : ServedHive) → result ≡ Answer.Reply (Line.Fault (hive_area hive))
         → AreaRose B.Blobs (by_hive plain.old semver2.old content.old hive) (by_hive plain.new semver2.new content.new hive) }
+    ensures document { (cs : List Stored) (name : List ℕ) → IsReady catalog.old (B.seen catalog.old.area) cs → IsCatalogPath path.now name
+        → RunsBehind [] (doc_gets (is_some (doc_at catalog.old.base cs name)) name) result (B.seen catalog.old.area) (B.seen catalog.new.area) }
+    ensures alone { ((name : List ℕ) → IsCatalogPath path.now name → ⊥) → catalog.new ≡ catalog.old }
+    ensures asks { (hive : ServedHive) (name : List ℕ) → IsHivePath hive path.now name → RunsBehind [] (Get name ∷ []) result
+        (B.seen (by_hive plain.old semver2.old content.old hive)) (B.seen (by_hive plain.new semver2.new content.new hive)) }
     ensures keeps { (hive : ServedHive) → KeepsArea B.Blobs (asked_under (target_path path.now) hive)
         (by_hive plain.old semver2.old content.old hive) (by_hive plain.new semver2.new content.new hive) }
 {

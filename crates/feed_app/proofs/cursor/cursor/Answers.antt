@@ -1,4 +1,5 @@
 use Rattle.std.proofs.Common.{inl, inr, option_map, refl, sym, subst}
+use Rattle.blob_store.specs.Plans.{Makes}
 use Rattle.feed_app.specs.Openings.{NotOpened}
 use Rattle.feed_app.specs.Outside.{over}
 use Rattle.feed_app.specs.Spelled.{StaysSpelled}
@@ -32,7 +33,15 @@ returns-in-Ok g c = λ input clock.
     c.cursor_among-answer.ensures.same
     (λ e. absurd (tells_no_catalog hive _ c.cursor_among-answer.result c.cursor_among-answer.ensures.is e))
     c.cursor_among-answer.ensures.hive_cause
-    (inr (allowed_by given s now o c.in-Ok.ensures.opened, c.cursor_among-answer.ensures.is))
+    (inr (
+      allowed_by given s now o c.in-Ok.ensures.opened,
+      c.cursor_among-answer.ensures.is,
+      record {
+        opening = λ m base cs plan lawful there spells is.
+            subst (λ x. Makes plan s (g.B.Blobs.seen x)) (sym c.into_area.ensures) (c.in-Ok.ensures.runs m base cs plan lawful there spells is);
+        hive = c.cursor_among-answer.ensures.runs;
+      },
+    ))
 
 pub returns-in-Err : goal.returns-in-Err
 returns-in-Err g c = λ input clock.

@@ -48,3 +48,15 @@ returns-in-Auto-clause-hive_cause g c = rw c.in-Auto.is (rw c.in-Auto.is at c.cu
 
 pub returns-in-Auto-clause-others : goal.returns-in-Auto-clause-others
 returns-in-Auto-clause-others g c = rw c.in-Auto.is (but_auto c.args.plain.now c.args.semver2.now c.args.content.now c.args.auto.now c.cursor_in-in-Auto.new.area)
+
+pub returns-in-Plain-clause-runs : goal.returns-in-Plain-clause-runs
+returns-in-Plain-clause-runs g c = rw c.in-Plain.is c.cursor_in.ensures.runs
+
+pub returns-in-SemVer2-clause-runs : goal.returns-in-SemVer2-clause-runs
+returns-in-SemVer2-clause-runs g c = rw c.in-SemVer2.is c.cursor_in-in-SemVer2.ensures.runs
+
+pub returns-in-Content-clause-runs : goal.returns-in-Content-clause-runs
+returns-in-Content-clause-runs g c = rw c.in-Content.is c.cursor_in-in-Content.ensures.runs
+
+pub returns-in-Auto-clause-runs : goal.returns-in-Auto-clause-runs
+returns-in-Auto-clause-runs g c = rw c.in-Auto.is c.cursor_in-in-Auto.ensures.runs

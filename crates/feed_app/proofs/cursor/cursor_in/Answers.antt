@@ -1,5 +1,8 @@
-use Rattle.std.proofs.Common.{ap}
+use Rattle.std.proofs.Common.{◌∷◌, [], ap, refl}
 use Rattle.std.specs.declared.result.Result.TheVariants.{Err}
+use Rattle.blob_store.specs.Events.{Get}
+use Rattle.cursor_doc.specs.Cursor.{cursor_name}
+use Rattle.feed_app.proofs.Behind.{cursor_runs, made_all}
 use Rattle.feed_app.proofs.Cursors.{stop_tells}
 use Rattle.feed_app.proofs.Jobs.{rose_by, stop_of_hive}
 use Rattle.feed_app.proofs.cursor.cursor_in.Goals as goal
@@ -10,3 +13,10 @@ returns-in-Err-clause-is g c = stop_tells c.args.hive _ c.in-Err.error c.of_stop
 pub returns-in-Err-clause-hive_cause : goal.returns-in-Err-clause-hive_cause
 returns-in-Err-clause-hive_cause g c = λ is. rose_by _ _ _ c.in-Err.ensures.counts
     (ap Err (stop_of_hive c.args.hive c.in-Err.error c.of_stop.result c.of_stop.ensures is))
+
+pub returns-in-Ok-clause-runs : goal.returns-in-Ok-clause-runs
+returns-in-Ok-clause-runs g c = made_all (Get cursor_name ∷ []) (g.B.Blobs.seen c.args.area.now) (g.B.Blobs.seen c.cursor_of.new.area) _ refl c.in-Ok.ensures.runs
+
+pub returns-in-Err-clause-runs : goal.returns-in-Err-clause-runs
+returns-in-Err-clause-runs g c = cursor_runs c.args.hive _ (Get cursor_name ∷ []) (g.B.Blobs.seen c.args.area.now) (g.B.Blobs.seen c.cursor_of.new.area)
+    c.in-Err.error c.of_stop.result c.of_stop.ensures c.in-Err.ensures.cause c.in-Err.ensures.runs

@@ -7,6 +7,7 @@ use Rattle.feed_app.specs.Openings.{NotOpened}
 use Rattle.feed_app.specs.Outside.{over}
 use Rattle.feed_app.specs.Spelled.{HasCatalog, IsOpenAs, StaysSpelled}
 use Rattle.feed_app.specs.declared.answer.Answer.{Answer}
+use Rattle.feed_app.proofs.Behind.{get_calls}
 use Rattle.feed_app.proofs.Closed.{allowed_by, closed_by, closed_rose, not_of_hive}
 use Rattle.feed_app.proofs.Gets.{explains, reads_as}
 use Rattle.feed_app.proofs.Holding.{closed_spelled, fault_rose, open_over, opened_spelled, then_spelled}
@@ -30,6 +31,9 @@ returns-in-Ok g c = λ input clock.
       allowed_by given s now c.in-Ok.catalog c.in-Ok.ensures.opened,
       reads_as g.B.Blobs c.document-answer.result c.args.path.now (IsOpenAs c.in-Ok.catalog now) (HasCatalog s)
           (hive_stores c.args.stores) (hive_stores left) opened c.document-answer.ensures.is,
+      get_calls g.B.Blobs c.document-answer.result c.args.path.now s c.in-Ok.catalog c.document-answer.new.catalog c.into_area.result
+          (hive_stores c.args.stores) (hive_stores left) c.into_area.ensures opened c.in-Ok.ensures.settled c.in-Ok.ensures.runs
+          c.document-answer.ensures.document c.document-answer.ensures.alone c.document-answer.ensures.asks,
     ) in
     record {
       keeps = record {
