@@ -9,7 +9,9 @@ pub mod Numbered
 pub mod OnePage
 pub mod PlacePuts
 pub mod Prefixes
+pub mod Results
 pub mod RowData
+pub mod Sent
 pub mod Slotted
 pub mod Spelling
 pub mod Unspelled

@@ -26,34 +26,27 @@ head_turn base vs later v xs x i page whole lt is seen pushed so_far =
     ∙ sym (ap (λ (l : List PageHead). map view vs ++ heads_data base page l) (drop_more xs i x lt ∙ ap (λ (h : PageHead). h ∷ drop (i + 1) xs) (sym is)))
     ∙ so_far
 
--- one row more
-pub row_turn : (base : List ℕ) (vs later : List Value) (v : Value) (xs : List Row) (x : Row) (i : ℕ) (whole : List Data)
-    → i < length xs → x ≡ get_or xs i x → view v ≡ row_data base x → later ≡ vs ++ v ∷ []
-    → map view vs ++ map (row_data base) (drop i xs) ≡ whole
-    → map view later ++ map (row_data base) (drop (i + 1) xs) ≡ whole
-row_turn base vs later v xs x i whole lt is seen pushed so_far =
-    let rest = map (row_data base) (drop (i + 1) xs) in
-    ap (λ (l : List Value). map view l ++ rest) pushed
-    ∙ ap (λ (l : List Data). l ++ rest) (map-append view vs (v ∷ []))
-    ∙ append_assoc (map view vs) (view v ∷ []) rest
-    ∙ ap (λ (d : Data). map view vs ++ d ∷ rest) seen
-    ∙ sym (ap (λ (l : List Row). map view vs ++ map (row_data base) l) (drop_more xs i x lt ∙ ap (λ (h : Row). h ∷ drop (i + 1) xs) (sym is)))
+-- one text more
+pub text_turn : {A B : Type 0} (told : A → Data) (wanted : B → Data) (ts later : List A) (t : A) (xs : List B) (x : B) (i : ℕ) (whole : List Data)
+    → i < length xs → x ≡ get_or xs i x → told t ≡ wanted x → later ≡ ts ++ t ∷ []
+    → map told ts ++ map wanted (drop i xs) ≡ whole
+    → map told later ++ map wanted (drop (i + 1) xs) ≡ whole
+text_turn {A} {B} told wanted ts later t xs x i whole lt is same pushed so_far =
+    let rest = map wanted (drop (i + 1) xs) in
+    ap (λ (l : List A). map told l ++ rest) pushed
+    ∙ ap (λ (l : List Data). l ++ rest) (map-append told ts (t ∷ []))
+    ∙ append_assoc (map told ts) (told t ∷ []) rest
+    ∙ ap (λ (d : Data). map told ts ++ d ∷ rest) same
+    ∙ sym (ap (λ (l : List B). map told ts ++ map wanted l) (drop_more xs i x lt ∙ ap (λ (h : B). h ∷ drop (i + 1) xs) (sym is)))
     ∙ so_far
 
 no_floats_in_heads : (base : List ℕ) (page : ℕ) (heads : List PageHead) → items_have_float (items_of (heads_data base page heads)) ≡ false
 no_floats_in_heads base page [] = refl
 no_floats_in_heads base page (head ∷ heads) = no_floats_in_heads base (suc page) heads
 
--- neither an index nor a page has a float
+-- an index has no float
 pub no_floats_in_index : (base : List ℕ) (heads : List PageHead) → has_float (index_data base heads) ≡ false
 no_floats_in_index base heads = rw (no_floats_in_heads base 0 heads)
-
-no_floats_in_rows : (base : List ℕ) (rows : List Row) → items_have_float (items_of (map (row_data base) rows)) ≡ false
-no_floats_in_rows base [] = refl
-no_floats_in_rows base (row ∷ rows) = no_floats_in_rows base rows
-
-pub no_floats_in_page : (base : List ℕ) (page : ℕ) (rows : List Row) → has_float (page_data base page rows) ≡ false
-no_floats_in_page base page rows = rw (no_floats_in_rows base rows)
 
 suc_sub : (n : ℕ) → suc (suc n) - 1 ≡ suc (suc n - 1)
 suc_sub n = omega arith
@@ -88,16 +81,16 @@ head_of-push rows row = λ i. record {
   count = length-append rows (row ∷ []) i;
 }
 
--- the values of rows with one more behind them
-pub row_pushed : (base : List ℕ) (vs later : List Value) (v : Value) (rows : List Row) (row : Row) → map view vs ≡ map (row_data base) rows → view v ≡ row_data base row
-    → later ≡ vs ++ v ∷ [] → map view later ≡ map (row_data base) (rows ++ row ∷ [])
-row_pushed base vs later v rows row so_far seen pushed =
-    ap (map view) pushed ∙ map-append view vs (v ∷ []) ∙ ap₂ (λ (l : List Data) (d : Data). l ++ d ∷ []) so_far seen ∙ sym (map-append (row_data base) rows (row ∷ []))
+-- the texts of rows with one more behind them
+pub text_pushed : {A B : Type 0} (told : A → Data) (wanted : B → Data) (ts later : List A) (t : A) (xs : List B) (x : B) → map told ts ≡ map wanted xs → told t ≡ wanted x
+    → later ≡ ts ++ t ∷ [] → map told later ≡ map wanted (xs ++ x ∷ [])
+text_pushed told wanted ts later t xs x so_far same pushed =
+    ap (map told) pushed ∙ map-append told ts (t ∷ []) ∙ ap₂ (λ (l : List Data) (d : Data). l ++ d ∷ []) so_far same ∙ sym (map-append wanted xs (x ∷ []))
 
--- a page of the values of its rows
-pub page_seen : (base : List ℕ) (k : ℕ) (rows : List Row) (values : List Value) (number stamp : ℕ) → map view values ≡ map (row_data base) rows
+-- a page of the texts of its rows
+pub page_told : {A : Type 0} (told : A → Data) (base : List ℕ) (k : ℕ) (rows : List Row) (texts : List A) (number stamp : ℕ) → map told texts ≡ map (row_data base) rows
     → number ≡ last_number rows → stamp ≡ last_stamp rows
-    → page_object (catalog_url base (page_name k)) (commit_id number) (stamp_text stamp) (length values) (map view values) (catalog_url base index_name) ≡ page_data base k rows
-page_seen base k rows values number stamp same last moment =
-    let count : length values ≡ length rows = sym (length-map values view) ∙ ap length same ∙ length-map rows (row_data base) in
+    → page_object (catalog_url base (page_name k)) (commit_id number) (stamp_text stamp) (length texts) (map told texts) (catalog_url base index_name) ≡ page_data base k rows
+page_told told base k rows texts number stamp same last moment =
+    let count : length texts ≡ length rows = sym (length-map texts told) ∙ ap length same ∙ length-map rows (row_data base) in
     λ i. page_object (catalog_url base (page_name k)) (commit_id (last i)) (stamp_text (moment i)) (count i) (same i) (catalog_url base index_name)

@@ -1,13 +1,11 @@
 -- The numbers of a catalog's commits, and how many they are.
-use Rattle.std.proofs.Common.{◌≡◌, ◌<◌, ◌≤◌, ◌+◌, ℕ, zero, suc, List, [], ◌∷◌, ◌++◌, length, get_or, Some, Option, refl, sym, ◌∙◌, ap, subst, arith, append_assoc, append-nil, length-append, slice_get}
-use Rattle.std.proofs.lemmas.Grind.{flat_map-append}
+use Rattle.std.proofs.Common.{◌≡◌, ◌<◌, ◌≤◌, ◌+◌, ℕ, zero, suc, List, [], ◌∷◌, ◌++◌, length, get_or, Some, Option, refl, sym, ap, subst, arith, append_assoc, append-nil, length-append, slice_get}
 use Rattle.std.specs.List.{Contains}
 use Rattle.pkg_meta.specs.Catalog.{Catalog}
 use Rattle.pkg_meta.specs.declared.commit.Staged.{Staged}
 use Rattle.pkg_meta.specs.declared.commit.Stored.{Stored}
-use Rattle.pkg_meta.specs.Lawful.{AreLawfulItems, IsLawful, IsLawfulItem, IsNext, MayFollow, Placed, all_placed, placed_from, placed_of}
+use Rattle.pkg_meta.specs.Lawful.{AreLawfulItems, IsLawful, IsNext, MayFollow, Placed, all_placed, placed_from, placed_of}
 use Rattle.pkg_meta.specs.declared.item.Item.{Item}
-use Rattle.pkg_meta.specs.declared.item.Item.TheVariants as the
 
 -- the k-th commit behind these has the number behind theirs and k
 numbered : (before cs : Catalog) (d : Stored) → MayFollow before cs → (k : ℕ) → k < length cs → get_or cs k d ≡ d → d.commit.number ≡ length before + (k + 1)

@@ -1,8 +1,8 @@
 -- What the puts at a commit's places leave, and what they leave alone.
-use Rattle.std.proofs.Common.{◌≡◌, ◌≢◌, ◌<◌, ◌≤◌, ◌+◌, ◌^◌, ◌⊎◌, inl, inr, ⊎_elim, ℕ, zero, suc, List, [], ◌∷◌, ◌++◌, length, Option, None, Some, IsSome, refl, sym, ◌∙◌, ap, subst, arith, slice_get}
+use Rattle.std.proofs.Common.{◌≡◌, ◌≢◌, ◌<◌, ◌≤◌, ◌+◌, ◌^◌, ℕ, zero, suc, List, [], ◌∷◌, ◌++◌, length, Option, None, Some, sym, ◌∙◌, ap, arith, slice_get}
 use Rattle.std.specs.FinMap.{get}
 use Rattle.blob_store.specs.Area.{Area}
-use Rattle.blob_store.specs.Runs.{LeavesAlone, after_call, after_calls, name_of}
+use Rattle.blob_store.specs.Runs.{LeavesAlone, after_calls}
 use Rattle.blob_store.specs.declared.call.Call.{Call}
 use Rattle.blob_store.specs.declared.call.Call.TheVariants.{Put}
 use Rattle.blob_store.proofs.Fronts.{LeavesAlone-append, after_calls-append, get_last}

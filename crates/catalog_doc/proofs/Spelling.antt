@@ -1,5 +1,5 @@
 -- The puts of a commit keep an area spelling: the catalog as it was up to the page, with the commit from the page on.
-use Rattle.std.proofs.Common.{◌≡◌, ◌≢◌, ◌<◌, ◌≤◌, ◌+◌, ◌-◌, ◌^◌, ◌⊎◌, inl, inr, ⊎_elim, ℕ, zero, suc, List, [], ◌∷◌, ◌++◌, length, codes, decimal, Bool, true, false, Option, None, Some, IsSome, IsUtf8, refl, sym, ◌∙◌, ap, subst, arith, length-append, slice_get}
+use Rattle.std.proofs.Common.{◌≡◌, ◌≢◌, ◌<◌, ◌≤◌, ◌+◌, ◌-◌, ◌^◌, ◌⊎◌, inl, inr, ⊎_elim, ℕ, zero, suc, List, [], ◌∷◌, ◌++◌, length, codes, decimal, Bool, true, false, Option, None, Some, IsSome, refl, sym, ◌∙◌, subst, arith, length-append}
 use Rattle.std.proofs.lemmas.List.Elements.{Contains-append_cases}
 use Rattle.std.proofs.lemmas.Slice.Eq.{bytes_eq-Decides}
 use Rattle.std.specs.FinMap.{get}
@@ -20,7 +20,6 @@ use Rattle.catalog_doc.specs.CatDocs.{all_rows, doc_at, heads_of, last_page, lea
 use Rattle.catalog_doc.specs.Catalogs.{IsCatalog}
 use Rattle.catalog_doc.specs.Commits.{commit_puts, index_put, page_put, place_puts, staged_puts}
 use Rattle.catalog_doc.specs.Documents.{index_text, leaf_text, page_text}
-use Rattle.catalog_doc.specs.Laws.{IsElsewhere}
 use Rattle.catalog_doc.specs.Names.{index_name, leaf_name, nupkg_name, nuspec_name, page_name}
 use Rattle.catalog_doc.specs.Spelled.{HoldsCommit, HoldsIndex, IsNameAt, IsNameUpTo, SpellsCatalog}
 use Rattle.catalog_doc.proofs.DocNames.{leaf_name-not_index, leaf_name-not_page, leaf_name-number, nupkg_name-no_document, nuspec_name-no_document, page_name-not_index, staged_rest}

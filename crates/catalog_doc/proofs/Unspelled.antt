@@ -1,5 +1,5 @@
 -- The area of no commits spells them; and areas that spell no catalog: with a foreign name, without a page, with an index two behind.
-use Rattle.std.proofs.Common.{◌≡◌, ◌≢◌, ◌<◌, ◌≤◌, ◌+◌, ◌-◌, ⊎_elim, inl, inr, ℕ, List, [], ◌∷◌, length, codes, get_or, Bool, true, false, Option, None, Some, IsSome, IsUtf8, refl, sym, ◌∙◌, ap, subst, arith, length-append}
+use Rattle.std.proofs.Common.{◌≡◌, ◌≢◌, ◌<◌, ◌≤◌, ◌+◌, ◌-◌, ⊎_elim, inl, ℕ, List, [], ◌∷◌, length, codes, get_or, Bool, true, false, Option, None, Some, IsSome, IsUtf8, refl, sym, ◌∙◌, ap, subst, arith, length-append}
 use Rattle.std.proofs.lemmas.List.{length-map}
 use Rattle.std.specs.FinMap.{empty, get, get-empty}
 use Rattle.std.specs.Str.{bytes_eq}

@@ -10,4 +10,5 @@ pub mod Members
 pub mod Names
 pub mod Reading
 pub mod Spelled
+pub mod Texts
 pub mod Verdict

@@ -76,8 +76,10 @@ pub(crate) fn page_url(alloc: Global, base: &str, page: u32) -> Result<String, A
 pub fn leaf_url(alloc: Global, base: &str, number: u32, place: u32) -> Result<String, AllocError>
     ensures { IfOk result (λ url. string_bytes url ≡ catalog_url base.now (leaf_name number place)) }
 {
-    let name = leaf_name(alloc, number, place)?;
-    catalog_url(alloc, base, &name)
+    // Behind the base address come at most 42 bytes.
+    let mut url = String::with_capacity(alloc, base.len().saturating_add(42))?;
+    write!(url, "{base}v3/catalog/data/{number}/{place}.json")?;
+    Ok(url)
 }
 
 /// What stands before the place in the URL of a commit's leaves.

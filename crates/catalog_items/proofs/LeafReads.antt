@@ -1,6 +1,6 @@
 -- Leaves that are read row by row, and the commits of their items.
-use Rattle.std.proofs.Common.{◌≡◌, ◌≢◌, ◌+◌, ℕ, zero, suc, List, [], ◌∷◌, ◌++◌, length, get_or, slice_set, Bool, true, false, Some, None, Ok, Err, Result, refl, sym, ◌∙◌, ap, ap₂, subst, arith}
-use Rattle.std.specs.Prelude.{◌&&◌, OnOk, nat_eq, if◌then◌else◌}
+use Rattle.std.proofs.Common.{◌≡◌, ◌≢◌, ◌+◌, ℕ, zero, suc, List, [], ◌∷◌, ◌++◌, length, get_or, slice_set, Bool, true, false, Some, None, Err, Result, refl, sym, ◌∙◌, ap, ap₂, subst, arith}
+use Rattle.std.specs.Prelude.{◌&&◌, nat_eq, if◌then◌else◌}
 use Rattle.std.specs.FinMap.{get}
 use Rattle.std.proofs.lemmas.Bool.Decides.{nat_tests}
 use Rattle.blob_store.specs.Area.{Area}
@@ -56,10 +56,6 @@ in_new (c ∷ next ∷ cs) row it (suc k) x count is other =
 pub in_first : (cs : List Commit) (row : Row) (it : Item) → length cs ≡ 0 → cs ++ commit_of_one row it ∷ [] ≡ with_item cs row it
 in_first [] row it none = refl
 in_first (c ∷ cs) row it none = absurd (omega (arith, none))
-
-pub on_ok : {A E P Q : Type 0} (r : Result A E) → (P → Q) → OnOk r P → OnOk r Q
-on_ok (Ok x) to p = to p
-on_ok (Err e) to p = tt
 
 -- a blob that isn't held is no leaf
 pub no_leaf_there : (m : Area) (base name : List ℕ) (row : Row) → name ≡ leaf_name row.number row.place → get m name ≡ None → HasNoLeaf m base row

@@ -3,7 +3,8 @@ use Rattle.std.proofs.lemmas.List.{get_or_default}
 use Rattle.pkg_meta.specs.declared.commit.Commit.{Commit}
 use Rattle.pkg_meta.specs.declared.item.Item.{Item}
 use Rattle.catalog_items.specs.Leaves.{commit_of_one}
-use Rattle.catalog_items.proofs.LeafReads.{in_first, in_last, in_new, on_ok}
+use Rattle.catalog_doc.proofs.Results.{on_ok}
+use Rattle.catalog_items.proofs.LeafReads.{in_first, in_last, in_new}
 use Rattle.catalog_items.proofs.items.add_item.Goals.{else-count-gt0-via-then-count-gt0+else-index-row, else-count-gt0-via-else-count-gt0}
 use Rattle.catalog_items.proofs.items.add_item.Goals as goal
 
