@@ -32,7 +32,7 @@ use Rattle.feed_app.specs.declared.answer.Answer.TheVariants.{Document, Reply}
 use Rattle.feed_app.specs.declared.hives.ServedHive.{ServedHive}
 use Rattle.feed_app.proofs.Closed.{closed_not}
 use Rattle.feed_app.specs.SoundHives.{HoldsHive}
-use Rattle.app_laws.specs.Scratch.{IsMadeOf, from_scratch}
+use Rattle.app_laws.specs.Scratch.{IsFromScratchOf, from_scratch}
 use Rattle.app_laws.proofs.Documents.{found, missing, of_get, prefix_of, same_store}
 use Rattle.app_laws.proofs.JobRounds.{job_ended, job_kept, line_of, made_of_all, unmoved}
 use Rattle.app_laws.proofs.Runs.{done, three_of, wrote, zero_of}
@@ -78,7 +78,7 @@ module _ {B I O C : Type 0} (b : Bounds B I O C) (words : List (List ℕ)) (befo
               (written (Reply (line_of hive end.1.0)) end.1.2 zero),
         )
 
-    pub job_documents : command_of words ≡ Some (Job hive) → status ≡ 0 → HoldsArea (b.blobs.seen New) (IsMadeOf hive base cs)
+    pub job_documents : command_of words ≡ Some (Job hive) → status ≡ 0 → HoldsArea (b.blobs.seen New) (IsFromScratchOf hive base cs)
     job_documents asked zero = let left = (job_settled asked zero).0 in (left.0, left.1, made_of_all hive base cs left.0 left.2)
 
     pub job_sound : command_of words ≡ Some (Job hive) → IsSure (b.blobs.seen Old)

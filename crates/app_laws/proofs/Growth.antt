@@ -22,7 +22,7 @@ use Rattle.feed_app.specs.Spelled.{HasCatalog}
 use Rattle.feed_app.specs.declared.answer.Answer.{Answer}
 use Rattle.feed_app.specs.declared.answer.Answer.TheVariants.{Reply}
 use Rattle.feed_app.proofs.Closed.{closed_not}
-use Rattle.app_laws.specs.Histories.{AsksChanges, IsEndedWith, IsLeft, IsWithCommit}
+use Rattle.app_laws.specs.Histories.{AsksChanges, IsEndedWith, IsLeftByCrash, IsWithCommit}
 use Rattle.app_laws.proofs.Stores.{at_moment}
 
 not_taken_zero : (answer : Answer) (rest : Option (List ℕ)) → NotTaken answer rest → answer_status answer ≡ 0 → ⊥
@@ -100,7 +100,7 @@ module _ {B : Type 0} (m : Members B) (before after : Sight B) (answer : Answer)
   unmoved same = subst (λ (x : B). HasCatalog (m.seen x) base cs) (sym same) has
 
   -- what a crash leaves
-  module _ (left : Area) (at : IsLeft (m.seen before.stores.catalog) (m.seen after.stores.catalog) left) where
+  module _ (left : Area) (at : IsLeftByCrash (m.seen before.stores.catalog) (m.seen after.stores.catalog) left) where
     abbrev Left : Type 0
     Left = (ds : Catalog) × IsCatalog ds × SpellsCatalog left base ds × ((ds ≡ cs) ⊎ IsWithCommit command before.input.told cs ds)
 
@@ -127,7 +127,7 @@ module _ {B : Type 0} (m : Members B) (before after : Sight B) (answer : Answer)
       has.lawful,
       at_moment (m.seen before.stores.catalog) (m.seen before.stores.catalog) (λ (a : Area). SpellsCatalog a base cs) left
           (started (m.seen before.stores.catalog) has.store.0 (λ (a : Area). SpellsCatalog a base cs) sure has.store.1 has.store.2)
-          (subst (λ (x : B). IsLeft (m.seen before.stores.catalog) (m.seen x) left) same at),
+          (subst (λ (x : B). IsLeftByCrash (m.seen before.stores.catalog) (m.seen x) left) same at),
       inl refl,
     )
 
@@ -140,7 +140,7 @@ module _ {B : Type 0} (m : Members B) (before after : Sight B) (answer : Answer)
       (not_taken_zero answer before.input.told not_taken)
   publish_made (inr (changes, brings, ends)) = by_end m before after answer base cs has Publish changes brings ends
 
-  pub publish_left : (left : Area) (at : IsLeft (m.seen before.stores.catalog) (m.seen after.stores.catalog) left) → IsSure (m.seen before.stores.catalog)
+  pub publish_left : (left : Area) (at : IsLeftByCrash (m.seen before.stores.catalog) (m.seen after.stores.catalog) left) → IsSure (m.seen before.stores.catalog)
       → Publishes m before answer after → Left m before after answer base cs has Publish left at
   publish_left left at sure (inl (not_taken, same, unasked)) = left_unmoved m before after answer base cs has Publish left at sure same
   publish_left left at sure (inr (changes, brings, ends)) = left_by_end m before after answer base cs has Publish left at changes brings ends
@@ -153,7 +153,7 @@ module _ {B : Type 0} (m : Members B) (before after : Sight B) (answer : Answer)
       (unread_zero answer kind pairs first)
   names_made kind pairs (inr (changes, asked, ends)) = by_end m before after answer base cs has (Names kind pairs) changes asked ends
 
-  pub names_left : (kind : NameKind) (pairs : List Pair) (left : Area) (at : IsLeft (m.seen before.stores.catalog) (m.seen after.stores.catalog) left)
+  pub names_left : (kind : NameKind) (pairs : List Pair) (left : Area) (at : IsLeftByCrash (m.seen before.stores.catalog) (m.seen after.stores.catalog) left)
       → IsSure (m.seen before.stores.catalog) → CommitsNames m kind pairs before answer after → Left m before after answer base cs has (Names kind pairs) left at
   names_left kind pairs left at sure (inl (first, same, unasked)) = left_unmoved m before after answer base cs has (Names kind pairs) left at sure same
   names_left kind pairs left at sure (inr (changes, asked, ends)) =

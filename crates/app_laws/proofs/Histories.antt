@@ -27,8 +27,8 @@ use Rattle.feed_app.specs.declared.answer.Answer.{Answer}
 use Rattle.feed_app.specs.declared.answer.Answer.TheVariants.{Reply}
 use Rattle.feed_app.specs.declared.hives.ServedHive.{ServedHive}
 use Rattle.feed_app.specs.SoundHives.{HoldsHive}
-use Rattle.app_laws.specs.Feeds.{Areas, Cursors, Hold, HoldsFeed, IsSoundFeed, NoneBehind}
-use Rattle.app_laws.specs.Histories.{Becomes, Crashed, Ended, Fate, Grows, Lead, StepLeads, Step}
+use Rattle.app_laws.specs.Feeds.{Areas, CursorNumbers, Hold, HoldsFeed, IsSoundFeed, NoneBehind}
+use Rattle.app_laws.specs.Histories.{Becomes, Crashed, Ended, Fate, BecomesOver, Lead, StepLeads, Step}
 use Rattle.app_laws.specs.Scratch.{from_scratch}
 use Rattle.app_laws.proofs.Fates.{get_found}
 use Rattle.feed_app.proofs.HiveLaws.{laws_of}
@@ -51,8 +51,8 @@ first_areas first (area.Hive hive) = empty
 
 module _ {B I O C : Type 0} (b : Bounds B I O C) (sure : (store : B) → IsSure (b.blobs.seen store)) where
   module _ (words : List (List ℕ)) (before after : Outside B I O C) (status : ℕ) (run : RunsCommand b words before status after) where
-    pub command_kept : (base : List ℕ) (cs : Catalog) (at : Cursors) → HoldsFeed b.blobs before.stores base cs at
-        → (ds : Catalog) × (to : Cursors) × HoldsFeed b.blobs after.stores base ds to
+    pub command_kept : (base : List ℕ) (cs : Catalog) (at : CursorNumbers) → HoldsFeed b.blobs before.stores base cs at
+        → (ds : Catalog) × (to : CursorNumbers) × HoldsFeed b.blobs after.stores base ds to
         × Becomes (command_of words) (input_of b.source before.input).told (Ended status) cs ds × NoneBehind at to
     command_kept base cs at holds =
         feed_ended b.blobs sure (sight b (base_of words) before) (sight b (base_of words) after) run.answer base cs at holds.0 holds.1 holds.2 status
@@ -82,8 +82,8 @@ module _ {B I O C : Type 0} (b : Bounds B I O C) (sure : (store : B) → IsSure 
         } in
         (first_areas index, first_hold index first.1 hives, sound)
 
-  leads : (step : Step) (fate : Fate) (old new : Areas) (base : List ℕ) (cs : Catalog) (at : Cursors) → StepLeads b step fate old new → IsSoundFeed base cs at old
-      → (ds : Catalog) × (to : Cursors) × IsSoundFeed base ds to new × Becomes (command_of step.words) step.input fate cs ds × NoneBehind at to
+  leads : (step : Step) (fate : Fate) (old new : Areas) (base : List ℕ) (cs : Catalog) (at : CursorNumbers) → StepLeads b step fate old new → IsSoundFeed base cs at old
+      → (ds : Catalog) × (to : CursorNumbers) × IsSoundFeed base ds to new × Becomes (command_of step.words) step.input fate cs ds × NoneBehind at to
   leads step (Ended status) old new base cs at (before, after, called, run, hold) feed =
       let kept = command_kept step.words before after status run base cs at (old, called.stores, feed) in (
         kept.0,
@@ -102,18 +102,18 @@ module _ {B I O C : Type 0} (b : Bounds B I O C) (sure : (store : B) → IsSure 
         kept.4,
       )
 
-  pub lead : (steps : List Step) (old new : Areas) (base : List ℕ) (cs : Catalog) (at : Cursors) → Lead b steps old new → IsSoundFeed base cs at old
-      → (ds : Catalog) × (to : Cursors) × IsSoundFeed base ds to new × Grows steps cs ds × NoneBehind at to
+  pub lead : (steps : List Step) (old new : Areas) (base : List ℕ) (cs : Catalog) (at : CursorNumbers) → Lead b steps old new → IsSoundFeed base cs at old
+      → (ds : Catalog) × (to : CursorNumbers) × IsSoundFeed base ds to new × BecomesOver steps cs ds × NoneBehind at to
   lead [] old new base cs at same feed = (cs, at, same_feed base cs at old new (λ name. ap Some (sym (same name))) feed, refl, λ hive. omega arith)
   lead (step ∷ steps) old new base cs at (mid, first, rest) feed =
       let one = leads step step.fate old mid base cs at first feed in
       let more = lead steps mid new base one.0 one.1 rest one.2 in
       (more.0, more.1, more.2, (one.0, one.3, more.3), (λ hive. let p = one.4 hive in let q = more.4 hive in omega (arith, p, q)))
 
-  pub read : (steps : List Step) (old new : Areas) (base : List ℕ) (cs : Catalog) (at : Cursors) → Lead b steps old new → IsSoundFeed base cs at old
+  pub read : (steps : List Step) (old new : Areas) (base : List ℕ) (cs : Catalog) (at : CursorNumbers) → Lead b steps old new → IsSoundFeed base cs at old
       → (words : List (List ℕ)) (before after : Outside B I O C) (status : ℕ) → RunsCommand b words before status after
       → (hive : ServedHive) (path name : List ℕ) → command_of words ≡ Some (Get path) → IsHivePath hive path name → Hold b.blobs before.stores new → status ≡ 0
-      → (ds : Catalog) × (k : ℕ) × (bytes : List ℕ) × Grows steps cs ds × (at (hive_name hive) ≤ k) × (k ≤ length ds)
+      → (ds : Catalog) × (k : ℕ) × (bytes : List ℕ) × BecomesOver steps cs ds × (at (hive_name hive) ≤ k) × (k ≤ length ds)
       × (from_scratch (hive_name hive) base (take k ds) name ≡ Some bytes)
       × HasMore bytes (output_of b.sink before.output) (output_of b.sink after.output)
   read steps old new base cs at course feed words before after status run hive path name asked names hold zero =

@@ -33,7 +33,7 @@ use Rattle.feed_app.specs.Spelled.{HasCatalog, IsSpelled}
 use Rattle.feed_app.specs.declared.answer.Answer.{Answer}
 use Rattle.feed_app.specs.declared.answer.Answer.TheVariants.{Reply}
 use Rattle.feed_app.proofs.Closed.{closed_not}
-use Rattle.app_laws.specs.Scratch.{IsMadeOf, from_scratch}
+use Rattle.app_laws.specs.Scratch.{IsFromScratchOf, from_scratch}
 use Rattle.feed_app.proofs.HiveLaws.{laws_of, staged_in}
 
 -- the line for what a round answered
@@ -129,7 +129,7 @@ pub scratch_of : (hive : HiveName) (base : List ℕ) (cs : Catalog) (key name : 
     → from_scratch hive base cs name ≡ doc_at (keeps_in hive) (makes_in hive) base cs key name
 scratch_of hive base cs key name own = ap (option_and_then (λ (q : List ℕ). doc_at (keeps_in hive) (makes_in hive) base cs q name)) own
 
-pub made_of_all : (hive : HiveName) (base : List ℕ) (cs : Catalog) (left : Area) → SettledArea (hive_fold hive base) cs (length cs) left → IsMadeOf hive base cs left
+pub made_of_all : (hive : HiveName) (base : List ℕ) (cs : Catalog) (left : Area) → SettledArea (hive_fold hive base) cs (length cs) left → IsFromScratchOf hive base cs left
 made_of_all hive base cs left settled = record {
   documents = λ key name own.
       (settled.1.settled key).holds name own

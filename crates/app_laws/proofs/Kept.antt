@@ -30,8 +30,8 @@ use Rattle.feed_app.specs.Outside.{Members, Sight, area_of, held}
 use Rattle.feed_app.specs.Spelled.{HasCatalog, StaysSpelled}
 use Rattle.feed_app.specs.declared.answer.Answer.{Answer}
 use Rattle.feed_app.specs.declared.answer.Answer.TheVariants.{Reply}
-use Rattle.app_laws.specs.Feeds.{Areas, Cursors, Hold, HoldsFeed, IsSoundFeed, NoneBehind}
-use Rattle.app_laws.specs.Histories.{Becomes, Crashed, Ended, Fate, IsEndedWith, IsLeft, IsLeftBy, IsWithCommit, MakesCatalog}
+use Rattle.app_laws.specs.Feeds.{Areas, CursorNumbers, Hold, HoldsFeed, IsSoundFeed, NoneBehind}
+use Rattle.app_laws.specs.Histories.{Becomes, Crashed, Ended, Fate, IsEndedWith, IsLeftByCrash, IsLeftBy, IsWithCommit, MakesCatalog}
 use Rattle.app_laws.proofs.Growth.{names_left, names_made, publish_left, publish_made}
 use Rattle.app_laws.proofs.JobRounds.{job_kept, unmoved}
 use Rattle.app_laws.proofs.Stores.{at_moment, cursor_opens, hive_still, job_changes_own, job_opens, keeps_hive, still_held, still_left, untouched_left}
@@ -40,7 +40,7 @@ inside : {A : Type 0} (x y : A) → Some x ≡ Some y → x ≡ y
 inside x y e = cc
 
 -- the areas of a feed are what is told of them
-pub same_feed : (base : List ℕ) (cs : Catalog) (at : Cursors) (old new : Areas) → ((name : AreaName) → Some (old name) ≡ Some (new name))
+pub same_feed : (base : List ℕ) (cs : Catalog) (at : CursorNumbers) (old new : Areas) → ((name : AreaName) → Some (old name) ≡ Some (new name))
     → IsSoundFeed base cs at old → IsSoundFeed base cs at new
 same_feed base cs at old new same feed = record {
   lawful = feed.lawful;
@@ -96,7 +96,7 @@ together catalog hives area.Catalog = catalog
 together catalog hives (area.Hive hive) = hives hive
 
 module _ {B : Type 0} (m : Members B) (sure : (store : B) → IsSure (m.seen store)) (before after : Sight B) (answer : Answer)
-    (base : List ℕ) (cs : Catalog) (at : Cursors) (areas : Areas) (hold : Hold m before.stores areas) (feed : IsSoundFeed base cs at areas) where
+    (base : List ℕ) (cs : Catalog) (at : CursorNumbers) (areas : Areas) (hold : Hold m before.stores areas) (feed : IsSoundFeed base cs at areas) where
   has : HasCatalog (m.seen before.stores.catalog) base cs
   has = record { lawful = feed.lawful; store = (areas area.Catalog, hold area.Catalog, feed.spells) }
 
@@ -153,7 +153,7 @@ module _ {B : Type 0} (m : Members B) (sure : (store : B) → IsSure (m.seen sto
         (λ job.
         let own : IsLeftBy m (touch_of (job_reach hive) (area.Hive hive)) (old_of hive) (new_of hive) left =
         subst (λ (x : Command). IsLeftBy m (touch_of (meaning m x).reach (area.Hive hive)) (old_of hive) (new_of hive) left) job is in
-        let moment : IsLeft (m.seen (old_of hive)) (m.seen (new_of hive)) left =
+        let moment : IsLeftByCrash (m.seen (old_of hive)) (m.seen (new_of hive)) left =
         subst (λ (t : Touch). IsLeftBy m t (old_of hive) (new_of hive) left) (job_changes_own hive) own in
         moved (f hive) cs (at hive) left (within hive)
         (at_moment (m.seen (old_of hive)) (m.seen (new_of hive)) (IsSoundOrSettled (f hive) cs (at hive)) left (job_left hive (as_job hive job)).1 moment))
@@ -198,7 +198,7 @@ module _ {B : Type 0} (m : Members B) (sure : (store : B) → IsSure (m.seen sto
     catalog_kept (Get path) done = (cs, ((stays_open Opens refl done.keeps.catalog).spelled base cs has).0, refl)
 
     abbrev FeedAfter : Option Command → Type 0
-    FeedAfter asked = (ds : Catalog) × (to : Cursors) × HoldsFeed m after.stores base ds to
+    FeedAfter asked = (ds : Catalog) × (to : CursorNumbers) × HoldsFeed m after.stores base ds to
         × Becomes asked before.input.told (Ended status) cs ds × NoneBehind at to
 
     holds_together : (a : Area) (h : HiveName → Area) → held m after.stores.catalog ≡ Some a
@@ -213,7 +213,7 @@ module _ {B : Type 0} (m : Members B) (sure : (store : B) → IsSure (m.seen sto
         (λ hive. hive_kept command done hive) in
         let a = catalog.1.store.0 in
         let h : HiveName → Area = (λ hive. (hives hive).2.0) in
-        let to : Cursors = (λ hive. (hives hive).0) in
+        let to : CursorNumbers = (λ hive. (hives hive).0) in
         let sound : IsSoundFeed base catalog.0 to (together a h) = record {
           lawful = catalog.1.lawful;
           spells = catalog.1.store.2;
@@ -236,12 +236,12 @@ module _ {B : Type 0} (m : Members B) (sure : (store : B) → IsSure (m.seen sto
     abbrev CatalogLeft : Command → Type 0
     CatalogLeft command = (ds : Catalog) × IsCatalog ds × SpellsCatalog (new area.Catalog) base ds × Becomes (Some command) before.input.told Crashed cs ds
 
-    left_open : IsLeft (m.seen before.stores.catalog) (m.seen after.stores.catalog) (new area.Catalog)
+    left_open : IsLeftByCrash (m.seen before.stores.catalog) (m.seen after.stores.catalog) (new area.Catalog)
         → StaysSpelled (m.seen before.stores.catalog) (m.seen after.stores.catalog) → SpellsCatalog (new area.Catalog) base cs
     left_open is spelled = at_moment (m.seen before.stores.catalog) (m.seen after.stores.catalog) (λ (a : Area). SpellsCatalog a base cs) (new area.Catalog) (spelled.spelled base cs has).1 is
 
     by_touch : (touch : Touch) → touch ≡ Opens → IsLeftBy m touch before.stores.catalog after.stores.catalog (new area.Catalog)
-        → IsLeft (m.seen before.stores.catalog) (m.seen after.stores.catalog) (new area.Catalog)
+        → IsLeftByCrash (m.seen before.stores.catalog) (m.seen after.stores.catalog) (new area.Catalog)
     by_touch touch is left = subst (λ (t : Touch). IsLeftBy m t before.stores.catalog after.stores.catalog (new area.Catalog)) is left
 
     catalog_left : (command : Command) → (MakesCatalog (Some command) → ⊥) → IsDone m (meaning m command) before answer after
@@ -257,7 +257,7 @@ module _ {B : Type 0} (m : Members B) (sure : (store : B) → IsSure (m.seen sto
     catalog_left (Get path) not done left = (cs, feed.lawful, left_open left (stays_open Opens refl done.keeps.catalog), refl)
 
     abbrev FeedLeft : Option Command → Type 0
-    FeedLeft asked = (ds : Catalog) × (to : Cursors) × IsSoundFeed base ds to new × Becomes asked before.input.told Crashed cs ds × NoneBehind at to
+    FeedLeft asked = (ds : Catalog) × (to : CursorNumbers) × IsSoundFeed base ds to new × Becomes asked before.input.told Crashed cs ds × NoneBehind at to
 
     abbrev IsLeftOf : Option Command → Type 0
     IsLeftOf asked = (name : AreaName) → IsLeftBy m (touch_of (reach_of m asked) name) (area_of before.stores name) (area_of after.stores name) (new name)
@@ -268,7 +268,7 @@ module _ {B : Type 0} (m : Members B) (sure : (store : B) → IsSure (m.seen sto
         let catalog = catalog_left command not done (left area.Catalog) in
         let hives : (hive : HiveName) → (to : ℕ) × (at hive ≤ to) × SoundArea (f hive) cs to (new (area.Hive hive)) =
         (λ hive. hive_left command done hive (new (area.Hive hive)) (left (area.Hive hive))) in
-        let to : Cursors = (λ hive. (hives hive).0) in
+        let to : CursorNumbers = (λ hive. (hives hive).0) in
         let sound : IsSoundFeed base catalog.0 to new = record {
           lawful = catalog.1;
           spells = catalog.2;

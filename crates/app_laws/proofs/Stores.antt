@@ -21,7 +21,7 @@ use Rattle.feed_app.specs.Jobs.{job_reach}
 use Rattle.feed_app.specs.Outside.{Members, area_of, held}
 use Rattle.feed_app.specs.declared.hives.ServedHive.{ServedHive}
 use Rattle.feed_app.specs.declared.hives.ServedHive.TheVariants as served
-use Rattle.app_laws.specs.Histories.{IsLeft, IsLeftBy}
+use Rattle.app_laws.specs.Histories.{IsLeftByCrash, IsLeftBy}
 
 pub keeps_hive : {B : Type 0} (m : Members B) (reach : Reach) (before after : Stores B) → KeepsAreas m reach before after → (hive : HiveName)
     → KeepsArea m (touch_of reach (area.Hive hive)) (area_of before (area.Hive hive)) (area_of after (area.Hive hive))
@@ -51,7 +51,7 @@ still_left m Opens old new left is same = absurd is
 still_left m Changes old new left is same = absurd is
 
 -- what a crash leaves at each moment it leaves at some
-pub at_moment : (old new : Seen) (P : Area → Type 0) (left : Area) → LeavesOnly old new P → IsLeft old new left → P left
+pub at_moment : (old new : Seen) (P : Area → Type 0) (left : Area) → LeavesOnly old new P → IsLeftByCrash old new left → P left
 at_moment old new P left leaves (t, low, high, few, at) = leaves.each few t left low high at
 
 none_left : {B : Type 0} (m : Members B) (before after : Stores B) (name : AreaName) (left : Area)

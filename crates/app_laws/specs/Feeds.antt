@@ -21,20 +21,20 @@ abbrev pub Hold : {B : Type 0} → Members B → Stores B → Areas → Type 0
 Hold m stores areas = (name : AreaName) → held m (area_of stores name) ≡ Some (areas name)
 
 -- at which commit each hive's cursor stands
-abbrev pub Cursors : Type 0
-Cursors = HiveName → ℕ
+abbrev pub CursorNumbers : Type 0
+CursorNumbers = HiveName → ℕ
 
 -- no cursor is behind
-abbrev pub NoneBehind : Cursors → Cursors → Type 0
+abbrev pub NoneBehind : CursorNumbers → CursorNumbers → Type 0
 NoneBehind old new = (hive : HiveName) → old hive ≤ new hive
 
 -- A feed is sound: its catalog's area spells a catalog below the base address, and each hive's area is that of a sound hive over it, whose
 -- cursor stands there.
-pub record IsSoundFeed (base : List ℕ) (cs : Catalog) (at : Cursors) (areas : Areas) : Type 0 where
+pub record IsSoundFeed (base : List ℕ) (cs : Catalog) (at : CursorNumbers) (areas : Areas) : Type 0 where
   pub lawful : IsCatalog cs
   pub spells : SpellsCatalog (areas area.Catalog) base cs
   pub hives : (hive : HiveName) → SoundArea (hive_fold hive base) cs (at hive) (areas (area.Hive hive))
 
 -- the stores tell the areas of such a feed
-abbrev pub HoldsFeed : {B : Type 0} → Members B → Stores B → List ℕ → Catalog → Cursors → Type 0
+abbrev pub HoldsFeed : {B : Type 0} → Members B → Stores B → List ℕ → Catalog → CursorNumbers → Type 0
 HoldsFeed m stores base cs at = (areas : Areas) × Hold m stores areas × IsSoundFeed base cs at areas

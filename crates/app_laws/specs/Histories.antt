@@ -28,15 +28,15 @@ pub record Step : Type 0 where
   pub fate : Fate
 
 -- what a crash leaves of a store at some moment of a call
-abbrev pub IsLeft : Seen → Seen → Area → Type 0
-IsLeft old new left = (t : ℕ) × (old.calls ≤ t) × (t ≤ new.calls) × (new.calls < most) × new.left t left
+abbrev pub IsLeftByCrash : Seen → Seen → Area → Type 0
+IsLeftByCrash old new left = (t : ℕ) × (old.calls ≤ t) × (t ≤ new.calls) × (new.calls < most) × new.left t left
 
 -- the same of a store that the call may put to; one that it asks at the most holds what it held
 abbrev pub IsLeftBy : {B : Type 0} → Members B → Touch → B → B → Area → Type 0
 IsLeftBy m Nothing old new left = (m.seen old).held ≡ Some left
 IsLeftBy m Asks old new left = (m.seen old).held ≡ Some left
-IsLeftBy m Opens old new left = IsLeft (m.seen old) (m.seen new) left
-IsLeftBy m Changes old new left = IsLeft (m.seen old) (m.seen new) left
+IsLeftBy m Opens old new left = IsLeftByCrash (m.seen old) (m.seen new) left
+IsLeftBy m Changes old new left = IsLeftByCrash (m.seen old) (m.seen new) left
 
 -- it is the command that makes a catalog: of its crashes nothing is said here
 abbrev pub MakesCatalog : Option Command → Type 0
@@ -79,17 +79,17 @@ pub record IsEndedWith (command : Command) (input : Option (List ℕ)) (cs ds : 
   pub refused : status ≡ 3 → ds ≡ cs
 
 -- where a crash stopped it, either
-abbrev pub Commits : Command → Option (List ℕ) → Fate → Catalog → Catalog → Type 0
-Commits command input (Ended status) cs ds = IsEndedWith command input cs ds status
-Commits command input Crashed cs ds = (ds ≡ cs) ⊎ IsWithCommit command input cs ds
+abbrev pub BecomesByCommit : Command → Option (List ℕ) → Fate → Catalog → Catalog → Type 0
+BecomesByCommit command input (Ended status) cs ds = IsEndedWith command input cs ds status
+BecomesByCommit command input Crashed cs ds = (ds ≡ cs) ⊎ IsWithCommit command input cs ds
 
 -- what becomes of a catalog, by the command that was asked for: only those that commit change it
 abbrev pub Becomes : Option Command → Option (List ℕ) → Fate → Catalog → Catalog → Type 0
-Becomes (Some Publish) input fate cs ds = Commits Publish input fate cs ds
-Becomes (Some (Names kind pairs)) input fate cs ds = Commits (Names kind pairs) input fate cs ds
+Becomes (Some Publish) input fate cs ds = BecomesByCommit Publish input fate cs ds
+Becomes (Some (Names kind pairs)) input fate cs ds = BecomesByCommit (Names kind pairs) input fate cs ds
 Becomes _ input fate cs ds = ds ≡ cs
 
 -- over these steps
-abbrev pub Grows : List Step → Catalog → Catalog → Type 0
-Grows [] cs ds = ds ≡ cs
-Grows (step ∷ steps) cs ds = (mid : Catalog) × Becomes (command_of step.words) step.input step.fate cs mid × Grows steps mid ds
+abbrev pub BecomesOver : List Step → Catalog → Catalog → Type 0
+BecomesOver [] cs ds = ds ≡ cs
+BecomesOver (step ∷ steps) cs ds = (mid : Catalog) × Becomes (command_of step.words) step.input step.fate cs mid × BecomesOver steps mid ds

@@ -16,7 +16,7 @@ from_scratch hive base cs name = option_and_then (λ (key : List ℕ). doc_at (k
 
 -- An area is what the hive makes of a catalog: each document that an id owns, and no other, and the cursor of the last commit. Beside
 -- these it holds states alone.
-pub record IsMadeOf (hive : HiveName) (base : List ℕ) (cs : Catalog) (m : Area) : Type 0 where
+pub record IsFromScratchOf (hive : HiveName) (base : List ℕ) (cs : Catalog) (m : Area) : Type 0 where
   pub documents : (key name : List ℕ) → owner name ≡ Some key → get m name ≡ from_scratch hive base cs name
   pub cursor : get m cursor_name ≡ cursor_at cs (length cs)
   pub others : (name : List ℕ) → IsSome (get m name) → IsHiveName name

@@ -14,7 +14,7 @@ ghost use Rattle.feed_app.specs.Outside.{area_of, bounds, output_of};
 ghost use Rattle.feed_app.specs.Runs.{ForRuns};
 ghost use Rattle.feed_app.specs.SoundHives.{HoldsHive};
 ghost use Rattle.feed_app.specs.Writes.{HasMore};
-ghost use Rattle.app_laws.specs.Scratch.{IsMadeOf};
+ghost use Rattle.app_laws.specs.Scratch.{IsFromScratchOf};
 
 use blob_store::Blobs;
 use feed_base::{Clock, Sink, Source};
@@ -26,7 +26,7 @@ pub fn jobs_leave_documents<B: Blobs, I: Source, O: Sink, C: Clock>()
         → HoldsArea (b.blobs.seen (area_of after.stores (area.Hive hive))) (SettledArea (hive_fold hive base) cs (length cs))) }
     ensures documents { let b = bounds B.Blobs I.Source O.Sink C.Clock in ForRuns b (λ words before status after. (hive : HiveName) (base : List ℕ) (cs : Catalog) (c : ℕ)
         → command_of words ≡ Some (Job hive) → HoldsHive b.blobs before.stores hive base cs c → status ≡ 0
-        → HoldsArea (b.blobs.seen (area_of after.stores (area.Hive hive))) (IsMadeOf hive base cs)) }
+        → HoldsArea (b.blobs.seen (area_of after.stores (area.Hive hive))) (IsFromScratchOf hive base cs)) }
 {}
 
 /// Whatever a job over a sound hive answers, the hive is sound with its cursor where it was, or exactly what it makes of the whole

@@ -23,7 +23,7 @@ use Rattle.catalog_doc.specs.declared.change.Change.{Change}
 use Rattle.catalog_doc.specs.declared.change.Change.TheVariants.{Publish, Unlist, Relist, Delete}
 use Rattle.catalog_doc.specs.declared.row.Row.{Row}
 use Rattle.catalog_doc.proofs.Spelling.{bytes_eq-true}
-use Rattle.catalog_rows.specs.Last.{is_no_delete, is_of_keys, last_row, row_of}
+use Rattle.catalog_rows.specs.Last.{is_no_delete, is_of_keys, last_row, placed_row}
 use Rattle.catalog_rows.specs.Reasons.{HasCounts, is_delete_of, is_of_same, is_publish_of}
 use Rattle.catalog_rows.proofs.LastRows.{live_rows-push, one}
 use Rattle.catalog_rows.proofs.OfItems.{AreOf, are_of-all, are_of-append, are_of-from, last_row-of, live_rows-items}
@@ -129,7 +129,7 @@ details_live : (what : Item) → not (is_gone what) ≡ is_some (details_of what
 details_live (the.Details d) = refl
 details_live (the.Gone i v) = refl
 
-live_last : (last : Option Placed) → is_no_delete (option_map row_of last) ≡ is_some (live_details last)
+live_last : (last : Option Placed) → is_no_delete (option_map placed_row last) ≡ is_some (live_details last)
 live_last None = refl
 live_last (Some x) = details_live x.what
 

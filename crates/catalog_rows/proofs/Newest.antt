@@ -18,7 +18,7 @@ use Rattle.catalog_doc.specs.Documents.{last_number, last_stamp}
 use Rattle.catalog_doc.specs.declared.row.Row.{Row}
 use Rattle.catalog_doc.proofs.OnePage.{length-rows_from}
 use Rattle.catalog_doc.proofs.Numbered.{few_commits}
-use Rattle.catalog_rows.specs.Last.{row_of}
+use Rattle.catalog_rows.specs.Last.{placed_row}
 use Rattle.catalog_rows.proofs.OfItems.{AreOf, are_of-all, rows_placed}
 use Rattle.catalog_rows.proofs.PageHeads.{last_number-behind, last_stamp-behind}
 
@@ -116,7 +116,7 @@ not_full rows cs changes are within =
 
 few_rows : (rows : List Row) (cs : Catalog) → IsCatalog cs → all_rows cs ≡ rows → length rows ≤ 200_000
 few_rows rows cs is are =
-    let few : length (all_rows cs) ≡ length (all_placed cs) = ap length (rows_placed cs) ∙ length-map (all_placed cs) row_of in
+    let few : length (all_rows cs) ≡ length (all_placed cs) = ap length (rows_placed cs) ∙ length-map (all_placed cs) placed_row in
     omega (arith, few, is.lawful.items, ap length are)
 
 pub is_full : (rows : List Row) (cs : Catalog) (changes : List Change) (items : ℕ) → IsCatalog cs → all_rows cs ≡ rows → 200_000 < length rows + length changes

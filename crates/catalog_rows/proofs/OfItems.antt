@@ -14,7 +14,7 @@ use Rattle.pkg_meta.specs.declared.item.Item.{Item}
 use Rattle.catalog_doc.specs.CatDocs.{all_rows, rows_from, rows_of}
 use Rattle.catalog_doc.specs.Catalogs.{all_items, is_live, live_count}
 use Rattle.catalog_doc.specs.declared.row.Row.{Row}
-use Rattle.catalog_rows.specs.Last.{is_live_row, last_row, live_rows, row_of}
+use Rattle.catalog_rows.specs.Last.{is_live_row, last_row, live_rows, placed_row}
 
 -- a row says what an item says
 pub record Says (row : Row) (it : Item) : Type 0 where
@@ -80,32 +80,32 @@ live_rows-items id (row ∷ rows) (it ∷ items) are =
 pub live_rows-all : (id : List ℕ) (cs : Catalog) → live_rows id (all_rows cs) ≡ live_count id (all_items cs)
 live_rows-all id cs = live_rows-items id (all_rows cs) (all_items cs) (are_of-all cs)
 
-rows_placed_from : (number stamp place : ℕ) (items : List Item) → rows_from number stamp place items ≡ map row_of (placed_from number stamp place items)
+rows_placed_from : (number stamp place : ℕ) (items : List Item) → rows_from number stamp place items ≡ map placed_row (placed_from number stamp place items)
 rows_placed_from number stamp place [] = refl
 rows_placed_from number stamp place (it ∷ items) =
     ap (λ (rows : List Row). record { number = number; place = place; stamp = stamp; id = id_of it; version = version_of it; gone = is_gone it } ∷ rows)
     (rows_placed_from number stamp (suc place) items)
 
 -- the rows are those of the items at their places
-pub rows_placed : (cs : Catalog) → all_rows cs ≡ map row_of (all_placed cs)
+pub rows_placed : (cs : Catalog) → all_rows cs ≡ map placed_row (all_placed cs)
 rows_placed [] = refl
 rows_placed (c ∷ cs) =
-    let own : rows_of c ≡ map row_of (placed_of c) = rows_placed_from c.commit.number c.commit.stamp 0 c.commit.items in
-    let rest : all_rows cs ≡ map row_of (all_placed cs) = rows_placed cs in
-    (λ i. own i ++ rest i) ∙ sym (map-append row_of (placed_of c) (all_placed cs))
+    let own : rows_of c ≡ map placed_row (placed_of c) = rows_placed_from c.commit.number c.commit.stamp 0 c.commit.items in
+    let rest : all_rows cs ≡ map placed_row (all_placed cs) = rows_placed cs in
+    (λ i. own i ++ rest i) ∙ sym (map-append placed_row (placed_of c) (all_placed cs))
 
 or_of : (found : Option Placed) (b : Bool) (x : Placed)
-    → option_or (option_map row_of found) (if b then Some (row_of x) else None) ≡ option_map row_of (or_earlier found (if b then Some x else None))
+    → option_or (option_map placed_row found) (if b then Some (placed_row x) else None) ≡ option_map placed_row (or_earlier found (if b then Some x else None))
 or_of (Some y) b x = refl
 or_of None true x = refl
 or_of None false x = refl
 
-last_row-placed : (id version : List ℕ) (xs : List Placed) → last_row id version (map row_of xs) ≡ option_map row_of (last_of id version xs)
+last_row-placed : (id version : List ℕ) (xs : List Placed) → last_row id version (map placed_row xs) ≡ option_map placed_row (last_of id version xs)
 last_row-placed id version [] = refl
 last_row-placed id version (x ∷ xs) =
-    ap (λ (found : Option Row). option_or found (if has_pair id version x.what then Some (row_of x) else None)) (last_row-placed id version xs)
+    ap (λ (found : Option Row). option_or found (if has_pair id version x.what then Some (placed_row x) else None)) (last_row-placed id version xs)
     ∙ or_of (last_of id version xs) (has_pair id version x.what) x
 
 -- the last row of a version is that of its last item
-pub last_row-of : (id version : List ℕ) (cs : Catalog) → last_row id version (all_rows cs) ≡ option_map row_of (last_of id version (all_placed cs))
+pub last_row-of : (id version : List ℕ) (cs : Catalog) → last_row id version (all_rows cs) ≡ option_map placed_row (last_of id version (all_placed cs))
 last_row-of id version cs = ap (last_row id version) (rows_placed cs) ∙ last_row-placed id version (all_placed cs)

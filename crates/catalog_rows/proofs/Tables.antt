@@ -19,7 +19,7 @@ use Rattle.blob_store.proofs.Areas.{bytes_eq-same, bytes_eq-turned}
 use Rattle.catalog_doc.proofs.Spelling.{bytes_eq-true}
 use Rattle.catalog_doc.specs.declared.row.Row.{Row}
 use Rattle.catalog_rows.specs.Last.{is_no_delete, is_of_keys, last_row, live_rows}
-use Rattle.catalog_rows.specs.Latest.{has_name, is_live_at, last_place, place_in, version_name}
+use Rattle.catalog_rows.specs.Latest.{has_name, is_live_at, last_place, place_told, version_name}
 use Rattle.catalog_rows.proofs.LastRows.{live_rows-few, live_rows-push, one}
 
 abbrev HasNoSlash : List ℕ → Type 0
@@ -106,13 +106,13 @@ own_place false at before = refl
 
 -- the table of places, with one row more
 pub places_more : {Y : Type 0} (rows : List Row) (row : Row) (name : String Y) (at : ℕ) (old new : BTreeMap (String Y) (Option ℕ))
-    → ((asked : List ℕ) → place_in old asked ≡ last_place (has_name asked) rows)
+    → ((asked : List ℕ) → place_told old asked ≡ last_place (has_name asked) rows)
     → string_bytes name ≡ version_name row.id.key (key_text row.version) → at ≡ length rows → UpdatesBy string_cmp (string_cmp name) old new (Some (Some at))
-    → (asked : List ℕ) → place_in new asked ≡ last_place (has_name asked) (rows ++ row ∷ [])
+    → (asked : List ℕ) → place_told new asked ≡ last_place (has_name asked) (rows ++ row ∷ [])
 places_more rows row name at old new places is here updates = λ asked.
     ap (λ (found : Option (Option ℕ)). unwrap_or found None) (btree_map_updates_text (string_bytes name) old new (Some (Some at)) updates asked)
     ∙ own_place (bytes_eq (string_bytes name) asked) at (get_by_text old asked)
-    ∙ ap₂ (λ (t : List ℕ) (n : ℕ). if bytes_eq t asked then Some n else place_in old asked) is here
+    ∙ ap₂ (λ (t : List ℕ) (n : ℕ). if bytes_eq t asked then Some n else place_told old asked) is here
     ∙ ap (λ (place : Option ℕ). if bytes_eq (version_name row.id.key (key_text row.version)) asked then Some (length rows) else place) (places asked)
     ∙ sym (last_place-push (has_name asked) rows row)
 

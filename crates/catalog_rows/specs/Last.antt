@@ -31,5 +31,5 @@ live_rows id [] = 0
 live_rows id (row ∷ rows) = (if is_live_row id row rows then 1 else 0) + live_rows id rows
 
 -- the row of an item at its place
-abbrev pub row_of : Placed → Row
-row_of x = record { number = x.number; place = x.place; stamp = x.stamp; id = id_of x.what; version = version_of x.what; gone = is_gone x.what }
+abbrev pub placed_row : Placed → Row
+placed_row x = record { number = x.number; place = x.place; stamp = x.stamp; id = id_of x.what; version = version_of x.what; gone = is_gone x.what }

@@ -30,12 +30,12 @@ pub record IsNamedFor (named : Named) (row : Row) : Type 0 where
   pub id : string_bytes named.id ≡ row.id.key
 
 -- the place that a table tells of a name, none where the name isn't listed
-abbrev pub place_in : {Y : Type 0} → BTreeMap (String Y) (Option ℕ) → List ℕ → Option ℕ
-place_in places name = unwrap_or (get_by_text places name) None
+abbrev pub place_told : {Y : Type 0} → BTreeMap (String Y) (Option ℕ) → List ℕ → Option ℕ
+place_told places name = unwrap_or (get_by_text places name) None
 
 -- the tables tell the place of the last row of each version, and the number of live versions of each id
 pub record IsLatestOf (rows : List Row) (latest : Latest) : Type 0 where
-  pub places : (name : List ℕ) → place_in latest.places name ≡ last_place (has_name name) rows
+  pub places : (name : List ℕ) → place_told latest.places name ≡ last_place (has_name name) rows
   pub live : (id : List ℕ) → unwrap_or (get_by_text latest.live id) 0 ≡ live_rows id rows
 
 -- whether the row at this place, where one is told, is there and no delete

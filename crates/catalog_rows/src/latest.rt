@@ -5,7 +5,7 @@ ghost use Rattle.std.specs.BTreeMap.{get_by_text};
 ghost use Rattle.std.specs.List.{All};
 ghost use Rattle.nuget_version.specs.Printed.{key_text};
 ghost use Rattle.catalog_doc.specs.declared.row.Row.{Row};
-ghost use Rattle.catalog_rows.specs.Latest.{AreNamedFor, IsLatestOf, IsListed, IsNamedFor, version_name};
+ghost use Rattle.catalog_rows.specs.Latest.{AreNamedFor, IsLatestOf, IsListed, IsNamedFor, is_live_at, version_name};
 
 use catalog_doc::Row;
 use pkg_meta::{NoMemory, PackageId, Version};
@@ -49,6 +49,16 @@ pub(crate) fn name_row(alloc: Global, row: &Row) -> Result<Named, NoMemory>
     Ok(Named { version, id })
 }
 
+// Whether the row at this place, where one is told, is there and no delete.
+fn is_live_at(rows: &[Row], place: Option<usize>) -> bool
+    ensures { result ≡ is_live_at rows.now place }
+{
+    match place.and_then(|at| rows.get(at)) {
+        Some(row) => !row.gone,
+        None => false,
+    }
+}
+
 // How many live versions an id has with a row more, of a version that was live or wasn't.
 fn count_with(count: usize, live: bool, gone: bool) -> usize
     ensures { (live ≡ true → 0 < count) → count < 2 ^ 64 - 1
@@ -80,7 +90,7 @@ fn list_key<V: Drop>(
 }
 
 impl Latest {
-    ghost use Rattle.catalog_rows.specs.Latest.{is_live_at, place_in};
+    ghost use Rattle.catalog_rows.specs.Latest.{place_told};
 
     pub(crate) fn new(alloc: Global) -> Self
         ensures { IsLatestOf [] result }
@@ -93,7 +103,7 @@ impl Latest {
 
     // The place of the last row of the version with this name.
     fn place_of(&self, name: &str) -> Option<usize>
-        ensures { result ≡ place_in self.now.places name.now }
+        ensures { result ≡ place_told self.now.places name.now }
     {
         self.places.get(name).copied().unwrap_or(None)
     }
@@ -105,7 +115,7 @@ impl Latest {
         id: &PackageId,
         version: &Version,
     ) -> Result<Option<usize>, NoMemory>
-        ensures { IfOk result (λ found. found ≡ place_in self.now.places (version_name id.now.key (key_text version.now))) }
+        ensures { IfOk result (λ found. found ≡ place_told self.now.places (version_name id.now.key (key_text version.now))) }
     {
         let name = version_name(alloc, id, version)?;
         Ok(self.place_of(name.as_str()))
@@ -116,19 +126,6 @@ impl Latest {
         ensures { result ≡ unwrap_or (get_by_text self.now.live id.now) 0 }
     {
         self.live.get(id).copied().unwrap_or(0)
-    }
-
-    // Whether the version with this name is live after these rows.
-    fn is_live(&self, rows: &[Row], name: &str) -> bool
-        ensures { result ≡ is_live_at rows.now (place_in self.now.places name.now) }
-    {
-        let Some(at) = self.place_of(name) else {
-            return false;
-        };
-        match rows.get(at) {
-            Some(row) => !row.gone,
-            None => false,
-        }
     }
 
     // Lists a version and its id.
@@ -160,11 +157,11 @@ impl Latest {
         ensures listed { IsListed self.old named → IsOk result }
         ensures keeps { (other : Named) → IsListed self.old other → IsListed self.new other }
     {
-        let was_live = self.is_live(earlier, named.version.as_str());
+        let place = self.places.insert(named.version, Some(earlier.len()))?;
+        let was_live = is_live_at(earlier, place.unwrap_or(None));
         let count = self.count(named.id.as_str());
-        let count = count_with(count, was_live, row.gone);
-        self.places.insert(named.version, Some(earlier.len()))?;
-        self.live.insert(named.id, count)?;
+        self.live
+            .insert(named.id, count_with(count, was_live, row.gone))?;
         Ok(())
     }
 

@@ -9,7 +9,7 @@ ghost use Rattle.catalog_doc.specs.CatDocs.{all_rows};
 ghost use Rattle.catalog_doc.specs.Catalogs.{IsCatalog};
 ghost use Rattle.catalog_doc.specs.Commits.{live_details};
 ghost use Rattle.catalog_doc.specs.Verdict.{absent, ended, existing, first_reason, full, id_full, last_number_of, twice, unfit};
-ghost use Rattle.catalog_rows.specs.Last.{row_of};
+ghost use Rattle.catalog_rows.specs.Last.{placed_row};
 ghost use Rattle.catalog_rows.specs.Reasons.{HasCounts, is_delete_of, is_publish_of, IsOfRows, misshapen, unready};
 
 use crate::rows::Rows;
@@ -26,7 +26,7 @@ const ROOM: usize = 200_000;
 
 fn existing(place: u32, last: Option<&Row>) -> Option<CommitErr>
     ensures kind { IfSome result IsOfRows }
-    ensures exact { (found : Option Placed) → option_copied last.entry ≡ option_map row_of found
+    ensures exact { (found : Option Placed) → option_copied last.entry ≡ option_map placed_row found
         → result ≡ existing place (last_number_of found) (live_details found) }
 {
     match last {
@@ -37,7 +37,7 @@ fn existing(place: u32, last: Option<&Row>) -> Option<CommitErr>
 
 fn absent(place: u32, last: Option<&Row>) -> Option<CommitErr>
     ensures kind { IfSome result IsOfRows }
-    ensures exact { (found : Option Placed) → option_copied last.entry ≡ option_map row_of found
+    ensures exact { (found : Option Placed) → option_copied last.entry ≡ option_map placed_row found
         → result ≡ absent place (last_number_of found) (live_details found) }
 {
     match last {

@@ -8,7 +8,7 @@ ghost use Rattle.pkg_meta.specs.Lawful.{all_placed, last_of};
 ghost use Rattle.catalog_doc.specs.CatDocs.{all_rows, last_page, pages_of};
 ghost use Rattle.catalog_doc.specs.Catalogs.{all_items, live_count};
 ghost use Rattle.catalog_rows.specs.Kept.{HoldsSame, IsKeptOf, TakesIn};
-ghost use Rattle.catalog_rows.specs.Last.{last_row, live_rows, row_of};
+ghost use Rattle.catalog_rows.specs.Last.{last_row, live_rows, placed_row};
 ghost use Rattle.catalog_rows.specs.Latest.{IsLatestOf, AreNamedFor};
 
 use crate::latest::{Latest, Named, name_row};
@@ -155,7 +155,7 @@ impl Rows {
     ) -> Result<Option<&Row>, NoMemory>
         ensures row { IfOk result (λ found. option_copied found ≡ last_row id.now.key (key_text version.now) self.now.rows) }
         ensures item { IfOk result (λ found. (cs : Catalog) → all_rows cs ≡ self.now.rows
-            → option_copied found ≡ option_map row_of (last_of id.now.key (key_text version.now) (all_placed cs))) }
+            → option_copied found ≡ option_map placed_row (last_of id.now.key (key_text version.now) (all_placed cs))) }
     {
         match self.latest.place(alloc, id, version)? {
             Some(at) => Ok(row_at(self.rows.as_slice(), at)),

@@ -16,7 +16,7 @@ use Rattle.catalog_laws.specs.Values.{HaveItemValues}
 use Rattle.catalog_laws.proofs.ItemValues.{item_values}
 use Rattle.catalog_laws.proofs.Pairs.{last_at}
 use Rattle.catalog_rows.specs.Kept.{Kept}
-use Rattle.catalog_rows.specs.Last.{row_of}
+use Rattle.catalog_rows.specs.Last.{placed_row}
 use Rattle.catalog_items.specs.Leaves.{HoldsLeaf}
 use Rattle.commit_plan.specs.Lookups.{IsKnown}
 
@@ -69,7 +69,7 @@ pub record HoldsLast (s : Seen) (base : List ℕ) (last : Placed) : Type 0 where
   pub area : Area
   pub area_is : s.held ≡ Some area
   pub value : IsItemValue last.what
-  pub leaf : HoldsLeaf area base (row_of last) last.what
+  pub leaf : HoldsLeaf area base (placed_row last) last.what
 
 pub last_leaf : (kept : Kept) (s : Seen) (base : List ℕ) (cs : Catalog) → IsKnown kept s base cs → (id version : List ℕ) (last : Placed)
     → last_of id version (all_placed cs) ≡ Some last → HoldsLast s base last

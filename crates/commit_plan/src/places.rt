@@ -31,7 +31,7 @@ pub(crate) fn put(name: String, bytes: Bytes) -> Call
     }
 }
 
-fn row_of(
+fn placed_row(
     alloc: Global,
     number: u32,
     place: u32,
@@ -119,7 +119,7 @@ fn add_row(
 ) -> Result<(), NoMemory>
     ensures { OnOk result (rows.new ≡ rows.old ++ rows_from number stamp place (item.now ∷ [])) }
 {
-    let row = row_of(alloc, number, place, stamp, item)?;
+    let row = placed_row(alloc, number, place, stamp, item)?;
     rows.push(row)?;
     Ok(())
 }

@@ -24,7 +24,7 @@ use Rattle.catalog_core.specs.Framing.{StaysOpen}
 use Rattle.catalog_core.specs.Opened.{IsOpenFor, IsUnsettled, Opened}
 use Rattle.id_pass.specs.Placing.{all_as_placed, as_placed}
 use Rattle.id_pass.specs.declared.placed.Placed.{Placed as Given}
-use Rattle.catalog_rows.specs.Last.{row_of}
+use Rattle.catalog_rows.specs.Last.{placed_row}
 use Rattle.job_round.specs.Items.{AreOf, IsLostBlob, is_behind}
 use Rattle.job_round.specs.Reads.{AreKept, leaves_behind}
 use Rattle.job_round.specs.Stops.{IsStopOfCatalog, catalog_stop_of}
@@ -75,8 +75,8 @@ leaf_lost o n s t number place error stop told damaged settled same row stands_t
     by reading.Memory lost = tt
 
 -- the item of a row among those of items
-pub at_row : (xs : List Placed) (i : ℕ) (row : Row) → i < length (map row_of xs) → row ≡ get_or (map row_of xs) i row
-    → (x : Placed) × (take (suc i) xs ≡ take i xs ++ x ∷ []) × Contains xs x × (row ≡ row_of x)
+pub at_row : (xs : List Placed) (i : ℕ) (row : Row) → i < length (map placed_row xs) → row ≡ get_or (map placed_row xs) i row
+    → (x : Placed) × (take (suc i) xs ≡ take i xs ++ x ∷ []) × Contains xs x × (row ≡ placed_row x)
 at_row [] i row within is = absurd (omega (arith, within))
 at_row (x ∷ xs) zero row within is = (x, refl, (0, omega arith, refl), is)
 at_row (x ∷ xs) (suc i) row within is =
@@ -94,11 +94,11 @@ filter_more p (y ∷ xs) x =
 -- the items of the rows so far
 pub record ItemsSoFar {B : Type 0} (o n : Opened B) (s t : Seen) (rows : List Row) (at i : ℕ) (items : List Given) : Type 0 where
   pub stays : StaysOpen o n s t (IsErrOf went_well CatalogFault)
-  pub items_are : (cs : Catalog) (xs : List Placed) → IsOpenFor o s cs → AreOf cs xs → rows ≡ map row_of xs → all_as_placed items ≡ filter (is_behind at) (take i xs)
+  pub items_are : (cs : Catalog) (xs : List Placed) → IsOpenFor o s cs → AreOf cs xs → rows ≡ map placed_row xs → all_as_placed items ≡ filter (is_behind at) (take i xs)
   pub read : o.settled ≡ true → AreKept o.kept.rows rows → Makes (leaves_behind at (take i rows)) s t
 
-module _ (rows : List Row) (at i : ℕ) (row : Row) (within : i < length rows) (is : row ≡ get_or rows i row) (xs : List Placed) (same : rows ≡ map row_of xs) where
-  pub there : (x : Placed) × (take (suc i) xs ≡ take i xs ++ x ∷ []) × Contains xs x × (row ≡ row_of x)
+module _ (rows : List Row) (at i : ℕ) (row : Row) (within : i < length rows) (is : row ≡ get_or rows i row) (xs : List Placed) (same : rows ≡ map placed_row xs) where
+  pub there : (x : Placed) × (take (suc i) xs ≡ take i xs ++ x ∷ []) × Contains xs x × (row ≡ placed_row x)
   there = at_row xs i row (subst (λ (l : List Row). i < length l) same within) (subst (λ (l : List Row). row ≡ get_or l i row) same is)
 
   next_taken : take (i + 1) xs ≡ take i xs ++ there.0 ∷ []
@@ -126,7 +126,7 @@ module _ (rows : List Row) (at i : ℕ) (row : Row) (within : i < length rows) (
       ∙ sym (ap (filter (is_behind at)) next_taken ∙ filter_more (is_behind at) (take i xs) there.0 ∙ ap (λ (b : Bool). filter (is_behind at) (take i xs) ++ cond b (there.0 ∷ []) []) behind)
 
 -- all rows were gone through
-pub all_taken : (rows : List Row) (i : ℕ) (xs : List Placed) → rows ≡ map row_of xs → length rows ≤ i → take i xs ≡ xs
+pub all_taken : (rows : List Row) (i : ℕ) (xs : List Placed) → rows ≡ map placed_row xs → length rows ≤ i → take i xs ≡ xs
 all_taken rows i xs same all =
-    let long : length rows ≡ length xs = ap (λ (l : List Row). length l) same ∙ length-map xs row_of in
+    let long : length rows ≡ length xs = ap (λ (l : List Row). length l) same ∙ length-map xs placed_row in
     take_all i xs (omega (arith, long, all))

@@ -16,7 +16,7 @@ use Rattle.catalog_items.specs.ByRows.{rows_above}
 use Rattle.catalog_core.specs.Framing.{StaysOpen}
 use Rattle.catalog_core.specs.Opened.{IsOpenFor, Opened}
 use Rattle.catalog_rows.specs.Kept.{Kept}
-use Rattle.catalog_rows.specs.Last.{row_of}
+use Rattle.catalog_rows.specs.Last.{placed_row}
 use Rattle.fold_core.specs.Docs.{Makes as MakesDocs}
 use Rattle.fold_core.specs.Entries.{Keeps}
 use Rattle.fold_core.specs.Folds.{Fold, fold_of}
@@ -104,7 +104,7 @@ module _ {B : Type 0} (keeps : Keeps) (makes : MakesDocs) (o : Opened B) (s : Se
 
   module _ (stored : Option StateDoc) (given : List Given) (plan : List Call) (mid : Opened B) (t : Seen) (at : ℕ) (rows : List Row) (base : List ℕ) (old : Option StateDoc) (these : List Placed)
       (stays : StaysOpen o mid s t (IsErrOf went_well CatalogFault)) (at_is : at ≡ at_in stored) (rows_are : rows ≡ id.rows)
-      (items : (cs : Catalog) (xs : List Placed) → IsOpenFor o s cs → AreOf cs xs → rows ≡ map row_of xs → all_as_placed given ≡ filter (is_behind at) xs)
+      (items : (cs : Catalog) (xs : List Placed) → IsOpenFor o s cs → AreOf cs xs → rows ≡ map placed_row xs → all_as_placed given ≡ filter (is_behind at) xs)
       (base_is : base ≡ mid.base) (old_is : old ≡ stored) (these_are : these ≡ all_as_placed given)
       (idle : is_idle old these ≡ true → plan ≡ []) (calls : is_idle old these ≡ false → ArePassCalls keeps makes base key old these target plan) where
     abbrev pass_made : List StoreCall → Pass
@@ -116,7 +116,7 @@ module _ {B : Type 0} (keeps : Keeps) (makes : MakesDocs) (o : Opened B) (s : Se
     told_takes a found made = record {
       stored = found;
       items = λ cs told.
-          let own : rows ≡ map row_of (items_after c cs key) = rows_are ∙ told.1 ∙ ap (λ (k : List ℕ). map row_of (items_after c cs k)) (sym named) in
+          let own : rows ≡ map placed_row (items_after c cs key) = rows_are ∙ told.1 ∙ ap (λ (k : List ℕ). map placed_row (items_after c cs k)) (sym named) in
           items cs (items_after c cs key) told.0 (after_of c cs key) own ∙ ap (λ (n : ℕ). items_behind c n cs key) at_is;
       planned = record {
         idle = λ is. idle (ap₂ is_idle old_is these_are ∙ is);
@@ -165,7 +165,7 @@ pub next_of : {B A : Type 0} (keeps : Keeps) (makes : MakesDocs) (o mid : Opened
     → RunsPass (fold_of keeps makes mid.base) (IsTold c id (IsOpenFor mid t)) c target id.key a b r → RunsPass (fold_of keeps makes o.base) (AreTold c ids (IsOpenFor o s)) c target id.key a b r
 next_of keeps makes o mid s t ids i id c target a b r within is stays ran =
     fewer_pass (fold_of keeps makes o.base) c target (IsTold c id (IsOpenFor mid t)) (AreTold c ids (IsOpenFor o s))
-    (λ cs told. ((stays.open_for cs told.0).open_for, subst (λ (x : IdRows). x.rows ≡ map row_of (items_after c cs x.key)) (sym is) (all_at (λ (x : IdRows). x.rows ≡ map row_of (items_after c cs x.key)) ids i id within told.1)))
+    (λ cs told. ((stays.open_for cs told.0).open_for, subst (λ (x : IdRows). x.rows ≡ map placed_row (items_after c cs x.key)) (sym is) (all_at (λ (x : IdRows). x.rows ≡ map placed_row (items_after c cs x.key)) ids i id within told.1)))
     id.key a b r (subst (λ (base : List ℕ). RunsPass (fold_of keeps makes base) (IsTold c id (IsOpenFor mid t)) c target id.key a b r) stays.base ran)
 
 -- an id's rows, said of the catalog at the start
@@ -182,7 +182,7 @@ pub next_read_of : {B A : Type 0} (keeps : Keeps) (makes : MakesDocs) (o mid : O
     → ReadsPass (fold_of keeps makes o.base) (AreTold c ids (IsOpenFor o s)) c target o.kept.rows id.key a b t u r
 next_read_of keeps makes o mid s t ids i id c target a b u r within is stays same ran =
     fewer_read (fold_of keeps makes o.base) c target o.kept.rows (IsTold c id (IsOpenFor mid t)) (AreTold c ids (IsOpenFor o s))
-    (λ cs told. ((stays.open_for cs told.0).open_for, subst (λ (x : IdRows). x.rows ≡ map row_of (items_after c cs x.key)) (sym is) (all_at (λ (x : IdRows). x.rows ≡ map row_of (items_after c cs x.key)) ids i id within told.1)))
+    (λ cs told. ((stays.open_for cs told.0).open_for, subst (λ (x : IdRows). x.rows ≡ map placed_row (items_after c cs x.key)) (sym is) (all_at (λ (x : IdRows). x.rows ≡ map placed_row (items_after c cs x.key)) ids i id within told.1)))
     id.key a b t u r
     (subst (λ (k : Kept). ReadsPass (fold_of keeps makes o.base) (IsTold c id (IsOpenFor mid t)) c target k.rows id.key a b t u r) same
     (subst (λ (base : List ℕ). ReadsPass (fold_of keeps makes base) (IsTold c id (IsOpenFor mid t)) c target mid.kept.rows id.key a b t u r) stays.base ran))

@@ -10,7 +10,7 @@ use Rattle.pkg_meta.specs.declared.item.Item.{Item}
 use Rattle.catalog_doc.specs.CatDocs.{all_rows}
 use Rattle.catalog_doc.specs.declared.row.Row.{Row}
 use Rattle.catalog_items.specs.ByRows.{rows_above}
-use Rattle.catalog_rows.specs.Last.{row_of}
+use Rattle.catalog_rows.specs.Last.{placed_row}
 use Rattle.catalog_rows.proofs.OfItems.{rows_placed}
 use Rattle.fold_core.specs.Items.{is_of}
 use Rattle.job_round.specs.Ids.{by_id, firsts, id_rows, is_row_of, key_of, key_of_id, keys_of}
@@ -18,28 +18,28 @@ use Rattle.job_round.specs.Items.{items_after, is_behind, keys_after, placed_aft
 use Rattle.job_round.specs.Reads.{HaveOwnRows}
 use Rattle.job_round.specs.declared.ids.IdRows.{IdRows}
 
-above_map : (c : ℕ) (xs : List Placed) → rows_above c (map row_of xs) ≡ map row_of (filter (is_behind c) xs)
+above_map : (c : ℕ) (xs : List Placed) → rows_above c (map placed_row xs) ≡ map placed_row (filter (is_behind c) xs)
 above_map c [] = refl
 above_map c (x ∷ xs) =
-    elim (is_behind c x) as (λ (b : Bool). cond b (row_of x ∷ rows_above c (map row_of xs)) (rows_above c (map row_of xs)) ≡ map row_of (cond b (x ∷ filter (is_behind c) xs) (filter (is_behind c) xs))) [
-      | true ↦ ap (λ (l : List Row). row_of x ∷ l) (above_map c xs)
+    elim (is_behind c x) as (λ (b : Bool). cond b (placed_row x ∷ rows_above c (map placed_row xs)) (rows_above c (map placed_row xs)) ≡ map placed_row (cond b (x ∷ filter (is_behind c) xs) (filter (is_behind c) xs))) [
+      | true ↦ ap (λ (l : List Row). placed_row x ∷ l) (above_map c xs)
       | false ↦ above_map c xs
     ]
 
 -- the rows behind a commit are those of the items behind it
-pub rows_are : (c : ℕ) (cs : Catalog) → rows_above c (all_rows cs) ≡ map row_of (placed_after c cs)
+pub rows_are : (c : ℕ) (cs : Catalog) → rows_above c (all_rows cs) ≡ map placed_row (placed_after c cs)
 rows_are c cs = ap (rows_above c) (rows_placed cs) ∙ above_map c (all_placed cs)
 
-of_map : (key : List ℕ) (xs : List Placed) → filter (is_row_of key) (map row_of xs) ≡ map row_of (filter (λ (x : Placed). is_of key x.what) xs)
+of_map : (key : List ℕ) (xs : List Placed) → filter (is_row_of key) (map placed_row xs) ≡ map placed_row (filter (λ (x : Placed). is_of key x.what) xs)
 of_map key [] = refl
 of_map key (x ∷ xs) =
-    elim (is_of key x.what) as (λ (b : Bool). cond b (row_of x ∷ filter (is_row_of key) (map row_of xs)) (filter (is_row_of key) (map row_of xs))
-    ≡ map row_of (cond b (x ∷ filter (λ (y : Placed). is_of key y.what) xs) (filter (λ (y : Placed). is_of key y.what) xs))) [
-      | true ↦ ap (λ (l : List Row). row_of x ∷ l) (of_map key xs)
+    elim (is_of key x.what) as (λ (b : Bool). cond b (placed_row x ∷ filter (is_row_of key) (map placed_row xs)) (filter (is_row_of key) (map placed_row xs))
+    ≡ map placed_row (cond b (x ∷ filter (λ (y : Placed). is_of key y.what) xs) (filter (λ (y : Placed). is_of key y.what) xs))) [
+      | true ↦ ap (λ (l : List Row). placed_row x ∷ l) (of_map key xs)
       | false ↦ of_map key xs
     ]
 
-keys_map : (xs : List Placed) → map key_of (map row_of xs) ≡ map placed_key xs
+keys_map : (xs : List Placed) → map key_of (map placed_row xs) ≡ map placed_key xs
 keys_map [] = refl
 keys_map (x ∷ xs) = ap (λ (l : List (List ℕ)). placed_key x ∷ l) (keys_map xs)
 
@@ -48,17 +48,17 @@ ids_keys rows [] = refl
 ids_keys rows (key ∷ keys) = ap (λ (l : List (List ℕ)). key ∷ l) (ids_keys rows keys)
 
 module _ (c : ℕ) (cs : Catalog) (rows : List Row) (same : rows ≡ rows_above c (all_rows cs)) where
-  own : rows ≡ map row_of (placed_after c cs)
+  own : rows ≡ map placed_row (placed_after c cs)
   own = same ∙ rows_are c cs
 
   pub keys_are : map key_of_id (by_id rows) ≡ keys_after c cs
   keys_are = ids_keys rows (keys_of rows) ∙ ap firsts (ap (map key_of) own ∙ keys_map (placed_after c cs))
 
-  told_each : (keys : List (List ℕ)) → AllByRecursion (λ (id : IdRows). id.rows ≡ map row_of (items_after c cs id.key)) (map (id_rows rows) keys)
+  told_each : (keys : List (List ℕ)) → AllByRecursion (λ (id : IdRows). id.rows ≡ map placed_row (items_after c cs id.key)) (map (id_rows rows) keys)
   told_each [] = tt
   told_each (key ∷ keys) = (ap (filter (is_row_of key)) own ∙ of_map key (placed_after c cs), told_each keys)
 
-  pub told_ids : AllByRecursion (λ (id : IdRows). id.rows ≡ map row_of (items_after c cs id.key)) (by_id rows)
+  pub told_ids : AllByRecursion (λ (id : IdRows). id.rows ≡ map placed_row (items_after c cs id.key)) (by_id rows)
   told_ids = told_each (keys_of rows)
 
 -- each id has its own rows behind a commit
@@ -133,15 +133,15 @@ last_get [] z = refl
 last_get (u ∷ us) z = last_get us z
 
 -- where the catalog goes on behind c, the last row behind c is that of its last item
-ends_above : (c : ℕ) (d : Stored) (cs : Catalog) → MayFollow [] (d ∷ cs) → c < length (d ∷ cs) → (us : List Row) × (z : Row) × (map row_of (placed_after c (d ∷ cs)) ≡ us ++ z ∷ []) × (z.number ≡ length (d ∷ cs)) × (z.stamp ≡ newest (d ∷ cs))
+ends_above : (c : ℕ) (d : Stored) (cs : Catalog) → MayFollow [] (d ∷ cs) → c < length (d ∷ cs) → (us : List Row) × (z : Row) × (map placed_row (placed_after c (d ∷ cs)) ≡ us ++ z ∷ []) × (z.number ≡ length (d ∷ cs)) × (z.stamp ≡ newest (d ∷ cs))
 ends_above c d cs follows more =
     let last = last_item [] d cs follows in
     let number : last.last.number ≡ length (d ∷ cs) = omega (arith, last.number_is) in
     let high : is_behind c last.last ≡ true = lt-ltb c last.last.number (omega (arith, number, more)) in (
-      map row_of (filter (is_behind c) last.front),
-      row_of last.last,
-      ap (map row_of) (ap (filter (is_behind c)) last.is ∙ filter_joined (is_behind c) last.front (last.last ∷ []) ∙ ap (λ (b : Bool). filter (is_behind c) last.front ++ cond b (last.last ∷ []) []) high)
-          ∙ map-append row_of (filter (is_behind c) last.front) (last.last ∷ []),
+      map placed_row (filter (is_behind c) last.front),
+      placed_row last.last,
+      ap (map placed_row) (ap (filter (is_behind c)) last.is ∙ filter_joined (is_behind c) last.front (last.last ∷ []) ∙ ap (λ (b : Bool). filter (is_behind c) last.front ++ cond b (last.last ∷ []) []) high)
+          ∙ map-append placed_row (filter (is_behind c) last.front) (last.last ∷ []),
       number,
       last.stamp_is,
     )
@@ -163,7 +163,7 @@ end_told c (d ∷ cs) rows row follows same is = elim (cases_lt c (length (d ∷
       let this : row ≡ z = cc in
       record { behind = more; number_is = ap (λ (r : Row). r.number) this ∙ number; stamp_is = ap (λ (r : Row). r.stamp) this ∙ stamp }
   | inr low ↦
-      let none : rows ≡ [] = same ∙ rows_are c (d ∷ cs) ∙ ap (map row_of) (none_behind c [] (d ∷ cs) follows (omega (arith, low))) in
+      let none : rows ≡ [] = same ∙ rows_are c (d ∷ cs) ∙ ap (map placed_row) (none_behind c [] (d ∷ cs) follows (omega (arith, low))) in
       let no : Some row ≡ None = is ∙ ap (λ (l : List Row). slice_get l (length l - 1)) none in
       absurd (let false_is : ⊥ = cc in false_is)
 ]

@@ -24,6 +24,6 @@ abbrev pub IsDamagedCursor : (Catalog → Type 0) → Option (List ℕ) → Type
 IsDamagedCursor Q found = IsNoCursor found ⊎ IsBeyond Q found
 
 -- a cursor document's bytes tell this number, or none
-abbrev pub IsReadAs : List ℕ → Option ℕ → Type 0
-IsReadAs bytes None = IsNoCursor (Some bytes)
-IsReadAs bytes (Some n) = IsCursor (Some bytes) n
+abbrev pub IsReadAsCursor : List ℕ → Option ℕ → Type 0
+IsReadAsCursor bytes None = IsNoCursor (Some bytes)
+IsReadAsCursor bytes (Some n) = IsCursor (Some bytes) n

@@ -12,7 +12,7 @@ use Rattle.pkg_meta.specs.Catalog.{Catalog}
 use Rattle.pkg_meta.specs.Lawful.{Placed}
 use Rattle.pkg_meta.specs.declared.state.StateDoc.{StateDoc}
 use Rattle.catalog_core.specs.Opened.{Opened}
-use Rattle.catalog_rows.specs.Last.{row_of}
+use Rattle.catalog_rows.specs.Last.{placed_row}
 use Rattle.fold_core.specs.Folds.{Fold}
 use Rattle.hive_state.specs.State.{state_name}
 use Rattle.id_pass.specs.Passes.{ArePassCalls, is_idle}
@@ -100,11 +100,11 @@ RunsPass f Q c target key old new (Err stop) = (p : Pass) × (p.key ≡ key) × 
 
 -- a catalog that may be meant, of which the id's rows behind the cursor c are these
 abbrev pub IsTold : ℕ → IdRows → (Catalog → Type 0) → Catalog → Type 0
-IsTold c id Q cs = Q cs × (id.rows ≡ map row_of (items_after c cs id.key))
+IsTold c id Q cs = Q cs × (id.rows ≡ map placed_row (items_after c cs id.key))
 
 -- and so are those of each of these ids
 abbrev pub AreTold : ℕ → List IdRows → (Catalog → Type 0) → Catalog → Type 0
-AreTold c ids Q cs = Q cs × AllByRecursion (λ (id : IdRows). id.rows ≡ map row_of (items_after c cs id.key)) ids
+AreTold c ids Q cs = Q cs × AllByRecursion (λ (id : IdRows). id.rows ≡ map placed_row (items_after c cs id.key)) ids
 
 -- the state of this name isn't one that an id may have at the target, in the area that is told
 abbrev pub IsStateLost : ℕ → Option Area → List ℕ → Type 0

@@ -28,9 +28,9 @@ IsNoState key target None = ⊥
 IsNoState key target (Some bytes) = (s : StateDoc) → IsStateValue s → fits_id key target s ≡ true → bytes ≡ state_text s → ⊥
 
 -- these bytes are of this state, or of none that the id may have
-abbrev pub IsReadAs : (key : List ℕ) (target : ℕ) → List ℕ → Option StateDoc → Type 0
-IsReadAs key target bytes None = IsNoState key target (Some bytes)
-IsReadAs key target bytes (Some s) = IsStoredState key target (Some bytes) (Some s)
+abbrev pub IsReadAsState : (key : List ℕ) (target : ℕ) → List ℕ → Option StateDoc → Type 0
+IsReadAsState key target bytes None = IsNoState key target (Some bytes)
+IsReadAsState key target bytes (Some s) = IsStoredState key target (Some bytes) (Some s)
 
 -- the last commit that a state has taken up, 0 where there is none
 abbrev pub at_in : Option StateDoc → ℕ

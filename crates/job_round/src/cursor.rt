@@ -3,7 +3,7 @@ ghost use Rattle.std.specs.Prelude.{◌≡◌, ◌∷◌, [], IfErr, IfOk, IfSom
 ghost use Rattle.std.specs.FinMap as map;
 ghost use Rattle.blob_store.specs.Events.{Get};
 ghost use Rattle.cursor_doc.specs.Cursor.{cursor_name};
-ghost use Rattle.job_round.specs.Cursors.{IsCursor, IsNoCursor, IsReadAs};
+ghost use Rattle.job_round.specs.Cursors.{IsCursor, IsNoCursor, IsReadAsCursor};
 ghost use Rattle.job_round.specs.Rounds.{RunsLast, cursor_put};
 ghost use Rattle.job_round.specs.Stops.{IsDamage, IsOfHive, RunsTo};
 
@@ -16,7 +16,7 @@ use std::alloc::Global;
 
 // The number that a cursor document tells.
 fn number_in(alloc: Global, bytes: &[u8]) -> Result<Option<u32>, NoMemory>
-    ensures { IfOk result (IsReadAs bytes.now) }
+    ensures { IfOk result (IsReadAsCursor bytes.now) }
 {
     match read_cursor(alloc, bytes) {
         Ok(mark) => Ok(Some(mark.number)),

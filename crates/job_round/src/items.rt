@@ -5,7 +5,7 @@ ghost use Rattle.pkg_meta.specs.declared.commit.Stored.{Stored};
 ghost use Rattle.catalog_core.specs.Framing.{StaysOpen};
 ghost use Rattle.catalog_core.specs.Opened.{IsOpenFor};
 ghost use Rattle.id_pass.specs.Placing.{all_as_placed};
-ghost use Rattle.catalog_rows.specs.Last.{row_of};
+ghost use Rattle.catalog_rows.specs.Last.{placed_row};
 ghost use Rattle.job_round.specs.Items.{AreOf, IsLostBlob, is_behind};
 ghost use Rattle.job_round.specs.Reads.{AreKept, RunsReads, leaf_of, leaves_behind};
 ghost use Rattle.job_round.specs.Stops.{IsElse, IsStopOfCatalog};
@@ -20,7 +20,7 @@ use std::alloc::Global;
 
 // The item of a delete's row.
 fn gone_item(alloc: Global, row: &Row) -> Result<Item, NoMemory>
-    ensures { (x : CatalogItem) → row.now ≡ row_of x → row.now.gone ≡ true → IfOk result (λ it. it ≡ x.what) }
+    ensures { (x : CatalogItem) → row.now ≡ placed_row x → row.now.gone ≡ true → IfOk result (λ it. it ≡ x.what) }
 {
     let id = row.id.copy(alloc)?;
     let version = row.version.copy(alloc)?;
@@ -30,7 +30,7 @@ fn gone_item(alloc: Global, row: &Row) -> Result<Item, NoMemory>
 // The item of a row: a delete's is told by the row, another is read from its leaf.
 fn item_of<B: Blobs>(alloc: Global, catalog: &mut Catalog<B>, row: &Row) -> Result<Item, Stop>
     ensures stays { StaysOpen catalog.old catalog.new (B.seen catalog.old.area) (B.seen catalog.new.area) (IsErrOf result Stop.CatalogFault) }
-    ensures item { (cs : List Stored) (x : CatalogItem) → IsOpenFor catalog.old (B.seen catalog.old.area) cs → Contains (all_placed cs) x → row.now ≡ row_of x
+    ensures item { (cs : List Stored) (x : CatalogItem) → IsOpenFor catalog.old (B.seen catalog.old.area) cs → Contains (all_placed cs) x → row.now ≡ placed_row x
         → IfOk result (λ it. it ≡ x.what) }
     ensures other { IfErr result IsElse }
     ensures reads { catalog.old.settled ≡ true → Contains catalog.old.kept.rows row.now
@@ -56,7 +56,7 @@ pub(crate) fn items_behind<B: Blobs>(
     at: u32,
 ) -> Result<Many<Placed>, Stop>
     ensures stays { StaysOpen catalog.old catalog.new (B.seen catalog.old.area) (B.seen catalog.new.area) (IsErrOf result Stop.CatalogFault) }
-    ensures items { (cs : List Stored) (xs : List CatalogItem) → IsOpenFor catalog.old (B.seen catalog.old.area) cs → AreOf cs xs → rows.now ≡ map row_of xs
+    ensures items { (cs : List Stored) (xs : List CatalogItem) → IsOpenFor catalog.old (B.seen catalog.old.area) cs → AreOf cs xs → rows.now ≡ map placed_row xs
         → IfOk result (λ items. all_as_placed items ≡ filter (is_behind at) xs) }
     ensures other { IfErr result IsElse }
     ensures reads { catalog.old.settled ≡ true → AreKept catalog.old.kept.rows rows.now

@@ -5,7 +5,7 @@ ghost use Rattle.std.specs.List.{list_all, position};
 ghost use Rattle.blob_store.specs.Events.{Get};
 ghost use Rattle.fold_core.specs.Docs.{before_slash};
 ghost use Rattle.hive_state.specs.State.{state_name};
-ghost use Rattle.job_round.specs.States.{IsNoState, IsReadAs, IsStoredState, at_in, fits_id, is_owned};
+ghost use Rattle.job_round.specs.States.{IsNoState, IsReadAsState, IsStoredState, at_in, fits_id, is_owned};
 ghost use Rattle.job_round.specs.Stops.{IsOfHive, RunsTo};
 
 use crate::calls::get;
@@ -64,7 +64,7 @@ fn state_in(
     target: u32,
     bytes: &[u8],
 ) -> Result<Option<StateDoc>, NoMemory>
-    ensures { IfOk result (IsReadAs key.now target bytes.now) }
+    ensures { IfOk result (IsReadAsState key.now target bytes.now) }
 {
     match read_state(alloc, bytes) {
         Ok(state) if fits_id(key, target, &state) => Ok(Some(state)),

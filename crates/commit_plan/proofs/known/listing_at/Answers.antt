@@ -9,7 +9,7 @@ use Rattle.pkg_meta.specs.declared.item.Item.{Item}
 use Rattle.catalog_doc.specs.declared.row.Row.{Row}
 use Rattle.catalog_opening.specs.declared.error.ReadErr.TheVariants.{Memory}
 use Rattle.catalog_opening.proofs.Halting.{damaged_told, halts_unstarted, reading_told}
-use Rattle.catalog_rows.specs.Last.{last_row, row_of}
+use Rattle.catalog_rows.specs.Last.{last_row, placed_row}
 use Rattle.catalog_items.specs.Leaves.{HoldsLeaf, IsNoLeafOf, leaf_gets}
 use Rattle.commit_plan.specs.Lookups.{IsLastDamaged, listing_in}
 use Rattle.commit_plan.proofs.LastLeaf.{last_leaf}
@@ -29,10 +29,10 @@ returns-in_default-clause-runs g c =
     (none (g.B.Blobs.seen c.args.area.now) (g.met.B.Blobs.now c.args.area.now))
 
 -- the row is that of the last item
-row_is : (id version : List ℕ) (placed : List Placed) (found : Option Row) (row : Row) (last : Placed) → found ≡ Some row → found ≡ option_map row_of (last_of id version placed)
-    → last_of id version placed ≡ Some last → row ≡ row_of last
+row_is : (id version : List ℕ) (placed : List Placed) (found : Option Row) (row : Row) (last : Placed) → found ≡ Some row → found ≡ option_map placed_row (last_of id version placed)
+    → last_of id version placed ≡ Some last → row ≡ placed_row last
 row_is id version placed found row last here told is =
-    let same : Some row ≡ Some (row_of last) = sym here ∙ told ∙ ap (option_map row_of) is in
+    let same : Some row ≡ Some (placed_row last) = sym here ∙ told ∙ ap (option_map placed_row) is in
     cc
 
 pub returns-in_err-item-clause-known : goal.returns-in_err-item-clause-known

@@ -2,7 +2,7 @@ use Rattle.std.proofs.Common.{◌≡◌, ◌∷◌, [], ℕ, List, Some, Option,
 use Rattle.std.proofs.lemmas.Result.{err_from_is_err_and}
 use Rattle.blob_store.specs.Events.{Get}
 use Rattle.cursor_doc.specs.Cursor.{cursor_name}
-use Rattle.job_round.specs.Cursors.{IsCursor, IsNoCursor, IsReadAs}
+use Rattle.job_round.specs.Cursors.{IsCursor, IsNoCursor, IsReadAsCursor}
 use Rattle.job_round.specs.declared.stop.Stop.TheVariants.{Memory}
 use Rattle.job_round.proofs.Finding.{damage_halts, damage_of_hive, found_as, with_found}
 use Rattle.job_round.proofs.Halting.{halts_behind, halts_told}
@@ -16,7 +16,7 @@ returns-in_err-number-clause-runs g c =
 
 pub returns-in-Some-2-clause-number : goal.returns-in-Some-2-clause-number
 returns-in-Some-2-clause-number g c =
-    let read : IsCursor (Some c.as_slice.result.now) c.in-Some-2.number = subst (IsReadAs c.as_slice.result.now) c.in-Some-2.is c.in_ok-number.ensures in
+    let read : IsCursor (Some c.as_slice.result.now) c.in-Some-2.number = subst (IsReadAsCursor c.as_slice.result.now) c.in-Some-2.is c.in_ok-number.ensures in
     with_found (g.B.Blobs.seen c.args.area.now).held cursor_name (Some c.as_slice.result.now) (λ (found : Option (List ℕ)). IsCursor found c.in-Some-2.number)
     (found_as (g.B.Blobs.seen c.args.area.now).held cursor_name _ (Some c.as_slice.result.now) (c.in-Some.is ∙ ap Some (sym c.as_slice.ensures)) c.in_ok-bytes.ensures.found) read
 
@@ -25,7 +25,7 @@ returns-clause-runs g c = damage_halts (λ name. name ≡ cursor_name) (Get curs
 
 pub returns-clause-cause : goal.returns-clause-cause
 returns-clause-cause g c =
-    let read : IsNoCursor (Some c.as_slice.result.now) = subst (IsReadAs c.as_slice.result.now) c.in-None.is c.in_ok-number.ensures in
+    let read : IsNoCursor (Some c.as_slice.result.now) = subst (IsReadAsCursor c.as_slice.result.now) c.in-None.is c.in_ok-number.ensures in
     damage_of_hive (λ name. name ≡ cursor_name) _ c.damaged_cursor.result (λ name is. (
       is,
       with_found (g.B.Blobs.seen c.args.area.now).held cursor_name (Some c.as_slice.result.now) IsNoCursor

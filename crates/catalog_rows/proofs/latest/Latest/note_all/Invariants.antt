@@ -1,4 +1,4 @@
-use Rattle.std.proofs.Common.{◌≡◌, ◌≤◌, ◌+◌, length, take}
+use Rattle.std.proofs.Common.{◌≡◌, ◌+◌, length, take}
 use Rattle.std.specs.List.{All}
 use Rattle.catalog_rows.specs.Latest.{IsLatestOf, IsListed}
 use Rattle.catalog_rows.proofs.latest.Latest.note_all.Given as goal
