@@ -26,7 +26,7 @@ use Rattle.catalog_doc.proofs.Slotted.{array_if_each, table_is_text}
 use Rattle.catalog_reading.proofs.Readable.{commit_id_text, literal, url_text}
 use Rattle.catalog_reading.proofs.Texts.{decimal_is_text, full_is_text, leaf_name_is_text, stamp_is_text}
 
-place_name_is_text : (n p : ℕ) → n < 2 ^ 64 → p < 2 ^ 64 → IsUtf8 (place_name n p)
+pub place_name_is_text : (n p : ℕ) → n < 2 ^ 64 → p < 2 ^ 64 → IsUtf8 (place_name n p)
 place_name_is_text n p fits other =
     IsUtf8-append (decimal n) _ (decimal_is_text n fits) (IsUtf8-append (codes "/") _ (literal (codes "/") refl) (decimal_is_text p other))
 

@@ -2,6 +2,7 @@ pub mod CommitIds
 pub mod LeafTexts
 pub mod Leaves
 pub mod Mapped
+pub mod Outlines
 pub mod Parsed
 pub mod Readable
 pub mod Shows

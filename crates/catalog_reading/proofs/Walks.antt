@@ -1,71 +1,50 @@
 -- Reading rows and heads one by one.
-use Rattle.std.proofs.Common.{◌≡◌, ◌<◌, ◌+◌, ℕ, zero, suc, List, [], ◌∷◌, ◌++◌, length, map, get_or, drop, Bool, true, false, Some, refl, sym, ◌∙◌, ap, arith, append_assoc, append-nil, add-one}
-use Rattle.serde_json.specs.Data.{Data, null, Items, no_items, item}
-use Rattle.serde_json.specs.View.{items_of, view}
-use Rattle.serde_json.specs.declared.value.Value.{Value}
+use Rattle.std.proofs.Common.{◌≡◌, ◌<◌, ◌+◌, ℕ, zero, suc, List, [], ◌∷◌, ◌++◌, length, map, get_or, drop, Some, refl, sym, ◌∙◌, ap, arith, append_assoc, append-nil, add-one}
+use Rattle.std.specs.declared.alloc.Global.{Global}
+use Rattle.json.specs.Value.{items_view, value_view}
+use Rattle.json.specs.declared.value.Value.{Value}
+use Rattle.serde_json.specs.View.{items_of}
+use Rattle.serde_json.specs.Written.{items_outline, outline}
 use Rattle.catalog_doc.specs.Documents.{head_data, heads_data, row_data}
 use Rattle.catalog_doc.specs.Reading.{AreHeadValues, AreRowValues, IsHeadValue, IsRowValue}
 use Rattle.catalog_doc.specs.declared.head.PageHead.{PageHead}
 use Rattle.catalog_doc.specs.declared.row.Row.{Row}
 
-first_of : Items → Data
-first_of no_items = null
-first_of (item d ds) = d
-
-behind_first : Items → Items
-behind_first no_items = no_items
-behind_first (item d ds) = ds
-
-has_item : Items → Bool
-has_item no_items = false
-has_item (item d ds) = true
-
--- a list's items tell the list
-pub items_of-injective : (ds es : List Data) → items_of ds ≡ items_of es → ds ≡ es
-unfolding first_of behind_first has_item
-items_of-injective [] [] e = refl
-items_of-injective [] (d ∷ ds) e = absurd (let no_way : false ≡ true = ap has_item e in cc)
-items_of-injective (d ∷ ds) [] e = absurd (let no_way : true ≡ false = ap has_item e in cc)
-items_of-injective (d ∷ ds) (f ∷ es) e =
-    let head : d ≡ f = ap first_of e in
-    let tail : ds ≡ es = items_of-injective ds es (ap behind_first e) in
-    λ i. head i ∷ tail i
-
--- the row that a value is the data of, among rows whose data the values are
-pub record IsNthRow (base : List ℕ) (v : Value) (i : ℕ) (rows : List Row) : Type 0 where
+-- the row that a tree is the outline of, among rows whose outlines the trees are
+pub record IsNthRow (base : List ℕ) (v : Value Global) (i : ℕ) (rows : List Row) : Type 0 where
   pub row : Row
   pub fits : IsRowValue row
-  pub seen : view v ≡ row_data base row
+  pub seen : value_view v ≡ outline (row_data base row)
   pub left : drop i rows ≡ row ∷ drop (suc i) rows
 
-pub nth_row : (base : List ℕ) (vs : List Value) (v : Value) (i : ℕ) (rows : List Row) → AreRowValues rows → map view vs ≡ map (row_data base) rows
+pub nth_row : (base : List ℕ) (vs : List (Value Global)) (v : Value Global) (i : ℕ) (rows : List Row) → AreRowValues rows → items_view vs ≡ items_outline (items_of (map (row_data base) rows))
     → i < length vs → v ≡ get_or vs i v → IsNthRow base v i rows
 nth_row base [] v i rows are same lt is = absurd (omega arith)
 nth_row base (x ∷ vs) v i [] are same lt is = absurd (let no_way : ⊥ = cc in no_way)
 nth_row base (x ∷ vs) v zero (row ∷ rows) are same lt is =
-    let own : view x ≡ row_data base row = cc in
-    record { row = row; fits = are.0; seen = ap view is ∙ own; left = refl }
+    let own : value_view x ≡ outline (row_data base row) = cc in
+    record { row = row; fits = are.0; seen = ap value_view is ∙ own; left = refl }
 nth_row base (x ∷ vs) v (suc i) (row ∷ rows) are same lt is =
-    let others : map view vs ≡ map (row_data base) rows = cc in
+    let others : items_view vs ≡ items_outline (items_of (map (row_data base) rows)) = cc in
     let found = nth_row base vs v i rows are.1 others (omega arith) is in
     record { row = found.row; fits = found.fits; seen = found.seen; left = found.left }
 
-pub record IsNthHead (base : List ℕ) (v : Value) (i : ℕ) (heads : List PageHead) : Type 0 where
+pub record IsNthHead (base : List ℕ) (v : Value Global) (i : ℕ) (heads : List PageHead) : Type 0 where
   pub place : ℕ
   pub head : PageHead
   pub fits : IsHeadValue head
-  pub seen : view v ≡ head_data base place head
+  pub seen : value_view v ≡ outline (head_data base place head)
   pub left : drop i heads ≡ head ∷ drop (suc i) heads
 
-pub nth_head : (base : List ℕ) (k : ℕ) (vs : List Value) (v : Value) (i : ℕ) (heads : List PageHead) → AreHeadValues heads → map view vs ≡ heads_data base k heads
+pub nth_head : (base : List ℕ) (k : ℕ) (vs : List (Value Global)) (v : Value Global) (i : ℕ) (heads : List PageHead) → AreHeadValues heads → items_view vs ≡ items_outline (items_of (heads_data base k heads))
     → i < length vs → v ≡ get_or vs i v → IsNthHead base v i heads
 nth_head base k [] v i heads are same lt is = absurd (omega arith)
 nth_head base k (x ∷ vs) v i [] are same lt is = absurd (let no_way : ⊥ = cc in no_way)
 nth_head base k (x ∷ vs) v zero (head ∷ heads) are same lt is =
-    let own : view x ≡ head_data base k head = cc in
-    record { place = k; head = head; fits = are.0; seen = ap view is ∙ own; left = refl }
+    let own : value_view x ≡ outline (head_data base k head) = cc in
+    record { place = k; head = head; fits = are.0; seen = ap value_view is ∙ own; left = refl }
 nth_head base k (x ∷ vs) v (suc i) (head ∷ heads) are same lt is =
-    let others : map view vs ≡ heads_data base (suc k) heads = cc in
+    let others : items_view vs ≡ items_outline (items_of (heads_data base (suc k) heads)) = cc in
     let found = nth_head base (suc k) vs v i heads are.1 others (omega arith) is in
     record { place = found.place; head = found.head; fits = found.fits; seen = found.seen; left = found.left }
 
@@ -93,14 +72,14 @@ module _ {A : Type 0} where
   all_read done wanted n i long at so_far =
       sym (append-nil done) ∙ ap (λ (l : List A). done ++ l) (sym (drop_all i wanted (long ∙ sym at))) ∙ so_far
 
-pub length-rows : (base : List ℕ) (vs : List Value) (rows : List Row) → map view vs ≡ map (row_data base) rows → length rows ≡ length vs
+pub length-rows : (base : List ℕ) (vs : List (Value Global)) (rows : List Row) → items_view vs ≡ items_outline (items_of (map (row_data base) rows)) → length rows ≡ length vs
 length-rows base [] [] e = refl
 length-rows base [] (row ∷ rows) e = absurd (let no_way : ⊥ = cc in no_way)
 length-rows base (v ∷ vs) [] e = absurd (let no_way : ⊥ = cc in no_way)
-length-rows base (v ∷ vs) (row ∷ rows) e = ap suc (length-rows base vs rows (let others : map view vs ≡ map (row_data base) rows = cc in others))
+length-rows base (v ∷ vs) (row ∷ rows) e = ap suc (length-rows base vs rows (let others : items_view vs ≡ items_outline (items_of (map (row_data base) rows)) = cc in others))
 
-pub length-heads : (base : List ℕ) (k : ℕ) (vs : List Value) (heads : List PageHead) → map view vs ≡ heads_data base k heads → length heads ≡ length vs
+pub length-heads : (base : List ℕ) (k : ℕ) (vs : List (Value Global)) (heads : List PageHead) → items_view vs ≡ items_outline (items_of (heads_data base k heads)) → length heads ≡ length vs
 length-heads base k [] [] e = refl
 length-heads base k [] (head ∷ heads) e = absurd (let no_way : ⊥ = cc in no_way)
 length-heads base k (v ∷ vs) [] e = absurd (let no_way : ⊥ = cc in no_way)
-length-heads base k (v ∷ vs) (head ∷ heads) e = ap suc (length-heads base (suc k) vs heads (let others : map view vs ≡ heads_data base (suc k) heads = cc in others))
+length-heads base k (v ∷ vs) (head ∷ heads) e = ap suc (length-heads base (suc k) vs heads (let others : items_view vs ≡ items_outline (items_of (heads_data base (suc k) heads)) = cc in others))

@@ -4,41 +4,17 @@ ghost use Rattle.std.specs.Prelude.{◌≡◌, ◌<◌, ◌^◌, ℕ, List, Some
 ghost use Rattle.serde_json.specs.View.{view};
 ghost use Rattle.pkg_meta.specs.Trees.{details_tree};
 ghost use Rattle.pkg_meta.specs.declared.item.Details.{Details};
-ghost use Rattle.catalog_doc.specs.Names.{place_name};
 ghost use Rattle.catalog_doc.specs.Reading.{IsDetailsValue};
 ghost use Rattle.catalog_reading.specs.Shown.{number_at, ShowsDetails, words_at};
 
 use crate::dependencies::groups_of;
-use crate::fields::{decimal_of, moment_of};
+use crate::fields::{Origin, moment_of, origin_of};
 use pkg_meta::{
     DepGroup, Details, Many, Meta, NoMemory, PackageId, Text, Ticks, Version, copy_text_in,
     copy_texts_of, flag_in, items_in, text_in,
 };
 use serde_json::Value;
 use std::alloc::Global;
-
-// The commit and the place that published an item.
-#[derive(Clone, Copy)]
-struct Origin {
-    number: u32,
-    place: u32,
-}
-
-// What stands before the first slash and behind it.
-fn parted(text: &str) -> Option<(&str, &str)>
-    ensures { (n p : ℕ) → n < 2 ^ 32 → text.now ≡ place_name n p → MatchOption result ⊥ (λ parts. (parts.0.now ≡ decimal n) × (parts.1.now ≡ decimal p)) }
-{
-    text.split_once('/')
-}
-
-fn origin_of(text: &str) -> Option<Origin>
-    ensures { (n p : ℕ) → n < 2 ^ 32 → p < 2 ^ 32 → text.now ≡ place_name n p → result ≡ Some (record { number = n; place = p }) }
-{
-    let (number, place) = parted(text)?;
-    let number = decimal_of(number.as_bytes())?;
-    let place = decimal_of(place.as_bytes())?;
-    Some(Origin { number, place })
-}
 
 fn origin_in(value: &Value) -> Option<Origin>
     ensures { (d : Details) → IsDetailsValue d → ShowsDetails d (view value.now) → result ≡ Some (record { number = d.origin_number; place = d.origin_place }) }

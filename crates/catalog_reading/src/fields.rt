@@ -1,63 +1,62 @@
 // The fields of the catalog's documents. Each is said for what the writers write; of other values
 // something else may be read.
-ghost use Rattle.std.specs.Prelude.{◌≡◌, Bool, ◌≤◌, ◌<◌, ◌^◌, ◌++◌, ℕ, List, Some, IfOk, IfSome, IfNone, MatchOption, IsUtf8, codes, decimal, option_map};
-ghost use Rattle.serde_json.specs.View.{view};
+ghost use Rattle.std.specs.Prelude.{◌≡◌, Bool, ◌≤◌, ◌<◌, ◌^◌, ◌++◌, ℕ, List, Some, IfOk, IfSome, IfNone, MatchOption, IsUtf8, decimal, option_map};
+ghost use Rattle.json.specs.Value.{value_view};
+ghost use Rattle.serde_json.specs.Written.{outline};
 ghost use Rattle.nuget_version.specs.Printed.{full_text};
 ghost use Rattle.ticks.specs.Stamp.{stamp_text};
 ghost use Rattle.catalog_doc.specs.Documents.{commit_id, head_data, row_data, row_kind};
-ghost use Rattle.catalog_doc.specs.Names.{catalog_url, leaf_name};
+ghost use Rattle.catalog_doc.specs.Names.{catalog_url, leaf_name, place_name};
 ghost use Rattle.catalog_doc.specs.Reading.{IsHeadValue, IsRowValue};
 ghost use Rattle.catalog_doc.specs.declared.head.PageHead.{PageHead};
 ghost use Rattle.catalog_doc.specs.declared.row.Row.{Row};
 
-use catalog_doc::place_front;
+use json::Value;
 use pkg_meta::{NoMemory, PackageId, Ticks, Version};
-use serde_json::Value;
 use std::alloc::Global;
 use uuid::Uuid;
 
-fn url_text(value: &Value) -> Option<&str>
-    ensures row { (base : List ℕ) (row : Row) → view value.now ≡ row_data base row → option_map (λ t. t.now) result ≡ Some (catalog_url base (leaf_name row.number row.place)) }
+fn url_text<'a>(value: &Value<'a>) -> Option<&'a str>
+    ensures row { (base : List ℕ) (row : Row) → value_view value.now ≡ outline (row_data base row) → option_map (λ t. t.now) result ≡ Some (catalog_url base (leaf_name row.number row.place)) }
 {
     value.get("@id").and_then(Value::as_str)
 }
 
-fn kind_text(value: &Value) -> Option<&str>
-    ensures row { (base : List ℕ) (row : Row) → view value.now ≡ row_data base row → option_map (λ t. t.now) result ≡ Some (row_kind row.gone) }
+fn kind_text<'a>(value: &Value<'a>) -> Option<&'a str>
+    ensures row { (base : List ℕ) (row : Row) → value_view value.now ≡ outline (row_data base row) → option_map (λ t. t.now) result ≡ Some (row_kind row.gone) }
 {
     value.get("@type").and_then(Value::as_str)
 }
 
-fn commit_text(value: &Value) -> Option<&str>
-    ensures row { (base : List ℕ) (row : Row) → view value.now ≡ row_data base row → option_map (λ t. t.now) result ≡ Some (commit_id row.number) }
-    ensures head { (base : List ℕ) (k : ℕ) (head : PageHead) → view value.now ≡ head_data base k head → option_map (λ t. t.now) result ≡ Some (commit_id head.number) }
+fn commit_text<'a>(value: &Value<'a>) -> Option<&'a str>
+    ensures head { (base : List ℕ) (k : ℕ) (head : PageHead) → value_view value.now ≡ outline (head_data base k head) → option_map (λ t. t.now) result ≡ Some (commit_id head.number) }
 {
     value.get("commitId").and_then(Value::as_str)
 }
 
-fn stamp_text(value: &Value) -> Option<&str>
-    ensures row { (base : List ℕ) (row : Row) → view value.now ≡ row_data base row → option_map (λ t. t.now) result ≡ Some (stamp_text row.stamp) }
-    ensures head { (base : List ℕ) (k : ℕ) (head : PageHead) → view value.now ≡ head_data base k head → option_map (λ t. t.now) result ≡ Some (stamp_text head.stamp) }
+fn stamp_text<'a>(value: &Value<'a>) -> Option<&'a str>
+    ensures row { (base : List ℕ) (row : Row) → value_view value.now ≡ outline (row_data base row) → option_map (λ t. t.now) result ≡ Some (stamp_text row.stamp) }
+    ensures head { (base : List ℕ) (k : ℕ) (head : PageHead) → value_view value.now ≡ outline (head_data base k head) → option_map (λ t. t.now) result ≡ Some (stamp_text head.stamp) }
 {
     value.get("commitTimeStamp").and_then(Value::as_str)
 }
 
-fn id_text(value: &Value) -> Option<&str>
-    ensures row { (base : List ℕ) (row : Row) → view value.now ≡ row_data base row → option_map (λ t. t.now) result ≡ Some row.id.text }
+fn id_text<'a>(value: &Value<'a>) -> Option<&'a str>
+    ensures row { (base : List ℕ) (row : Row) → value_view value.now ≡ outline (row_data base row) → option_map (λ t. t.now) result ≡ Some row.id.text }
 {
     value.get("nuget:id").and_then(Value::as_str)
 }
 
-fn version_text(value: &Value) -> Option<&str>
-    ensures row { (base : List ℕ) (row : Row) → view value.now ≡ row_data base row → option_map (λ t. t.now) result ≡ Some (full_text row.version) }
+fn version_text<'a>(value: &Value<'a>) -> Option<&'a str>
+    ensures row { (base : List ℕ) (row : Row) → value_view value.now ≡ outline (row_data base row) → option_map (λ t. t.now) result ≡ Some (full_text row.version) }
 {
     value.get("nuget:version").and_then(Value::as_str)
 }
 
-fn count(value: &Value) -> Option<u64>
-    ensures head { (base : List ℕ) (k : ℕ) (head : PageHead) → view value.now ≡ head_data base k head → result ≡ Some head.count }
+fn count_text<'a>(value: &Value<'a>) -> Option<&'a str>
+    ensures head { (base : List ℕ) (k : ℕ) (head : PageHead) → value_view value.now ≡ outline (head_data base k head) → option_map (λ t. t.now) result ≡ Some (decimal head.count) }
 {
-    value.get("count").and_then(Value::as_u64)
+    value.get("count").and_then(Value::as_number)
 }
 
 /// The number of the commit that has this id, the UUID text (RFC 9562) that `commit_id` writes.
@@ -83,10 +82,9 @@ fn is_gone(kind: &str) -> bool
     kind == "nuget:PackageDelete"
 }
 
-// The number of the commit that a row or a page's head names.
-pub(crate) fn number_in(value: &Value) -> Option<u32>
-    ensures row { (base : List ℕ) (row : Row) → IsRowValue row → view value.now ≡ row_data base row → result ≡ Some row.number }
-    ensures head { (base : List ℕ) (k : ℕ) (head : PageHead) → IsHeadValue head → view value.now ≡ head_data base k head → result ≡ Some head.number }
+// The number of the commit that a page's head names.
+pub(crate) fn number_in(value: &Value<'_>) -> Option<u32>
+    ensures { (base : List ℕ) (k : ℕ) (head : PageHead) → IsHeadValue head → value_view value.now ≡ outline (head_data base k head) → result ≡ Some head.number }
 {
     match commit_text(value) {
         Some(text) => commit_number(text),
@@ -94,10 +92,10 @@ pub(crate) fn number_in(value: &Value) -> Option<u32>
     }
 }
 
-// The stamp of that commit.
-pub(crate) fn stamp_in(value: &Value) -> Option<Ticks>
-    ensures row { (base : List ℕ) (row : Row) → IsRowValue row → view value.now ≡ row_data base row → result ≡ Some row.stamp }
-    ensures head { (base : List ℕ) (k : ℕ) (head : PageHead) → IsHeadValue head → view value.now ≡ head_data base k head → result ≡ Some head.stamp }
+// The stamp of the commit of a row or a page's head.
+pub(crate) fn stamp_in(value: &Value<'_>) -> Option<Ticks>
+    ensures row { (base : List ℕ) (row : Row) → IsRowValue row → value_view value.now ≡ outline (row_data base row) → result ≡ Some row.stamp }
+    ensures head { (base : List ℕ) (k : ℕ) (head : PageHead) → IsHeadValue head → value_view value.now ≡ outline (head_data base k head) → result ≡ Some head.stamp }
 {
     match stamp_text(value) {
         Some(text) => moment_of(text),
@@ -106,18 +104,18 @@ pub(crate) fn stamp_in(value: &Value) -> Option<Ticks>
 }
 
 // How many items a page's head counts.
-pub(crate) fn count_in(value: &Value) -> Option<u32>
-    ensures { (base : List ℕ) (k : ℕ) (head : PageHead) → IsHeadValue head → view value.now ≡ head_data base k head → result ≡ Some head.count }
+pub(crate) fn count_in(value: &Value<'_>) -> Option<u32>
+    ensures { (base : List ℕ) (k : ℕ) (head : PageHead) → IsHeadValue head → value_view value.now ≡ outline (head_data base k head) → result ≡ Some head.count }
 {
-    match count(value) {
-        Some(number) => u32::try_from(number).ok(),
+    match count_text(value) {
+        Some(digits) => decimal_of(digits),
         None => None,
     }
 }
 
 // Whether a row speaks of a delete.
-pub(crate) fn gone_in(value: &Value) -> Option<bool>
-    ensures { (base : List ℕ) (row : Row) → view value.now ≡ row_data base row → result ≡ Some row.gone }
+pub(crate) fn gone_in(value: &Value<'_>) -> Option<bool>
+    ensures { (base : List ℕ) (row : Row) → value_view value.now ≡ outline (row_data base row) → result ≡ Some row.gone }
 {
     match kind_text(value) {
         Some(kind) => Some(is_gone(kind)),
@@ -152,41 +150,59 @@ fn text_of(bytes: &[u8]) -> Option<&str>
 }
 
 // What is read where a number was written.
-pub(crate) fn decimal_of(digits: &[u8]) -> Option<u32>
+fn decimal_of(digits: &str) -> Option<u32>
     ensures { (n : ℕ) → n < 2 ^ 32 → digits.now ≡ decimal n → result ≡ Some n }
 {
-    let text = text_of(digits)?;
-    text.parse::<u32>().ok()
+    digits.parse::<u32>().ok()
 }
 
-// The place in a leaf's URL, behind this prefix.
-fn place_behind(url: &[u8], front: &[u8]) -> Option<u32>
-    ensures { (place : ℕ) → place < 2 ^ 32 → url.now ≡ front.now ++ (decimal place ++ codes ".json") → result ≡ Some place }
-{
-    let rest = behind(url, front)?;
-    let digits = before(rest, b".json")?;
-    decimal_of(digits)
+// The commit and the place that published an item.
+#[derive(Clone, Copy)]
+pub(crate) struct Origin {
+    pub(crate) number: u32,
+    pub(crate) place: u32,
 }
 
-// The place of a row of a commit with this number.
-pub(crate) fn place_in(
-    alloc: Global,
-    base: &str,
-    number: u32,
-    value: &Value,
-) -> Result<Option<u32>, NoMemory>
-    ensures { (row : Row) → IsRowValue row → row.number ≡ number → view value.now ≡ row_data base.now row → IfOk result (λ found. found ≡ Some row.place) }
+// What stands before the first slash and behind it.
+fn parted(text: &str) -> Option<(&str, &str)>
+    ensures { (n p : ℕ) → n < 2 ^ 32 → text.now ≡ place_name n p → MatchOption result ⊥ (λ parts. (parts.0.now ≡ decimal n) × (parts.1.now ≡ decimal p)) }
 {
-    let Some(url) = url_text(value) else {
-        return Ok(None);
-    };
-    let front = place_front(alloc, base, number)?;
-    Ok(place_behind(url.as_bytes(), front.as_bytes()))
+    text.split_once('/')
+}
+
+pub(crate) fn origin_of(text: &str) -> Option<Origin>
+    ensures { (n p : ℕ) → n < 2 ^ 32 → p < 2 ^ 32 → text.now ≡ place_name n p → result ≡ Some (record { number = n; place = p }) }
+{
+    let (number, place) = parted(text)?;
+    let number = decimal_of(number)?;
+    let place = decimal_of(place)?;
+    Some(Origin { number, place })
+}
+
+// What the URL of a leaf says of its item.
+fn origin_behind(url: &[u8], base: &[u8]) -> Option<Origin>
+    ensures { (n p : ℕ) → n < 2 ^ 32 → p < 2 ^ 32 → url.now ≡ catalog_url base.now (leaf_name n p) → result ≡ Some (record { number = n; place = p }) }
+{
+    let name = behind(url, base)?;
+    let rest = behind(name, b"v3/catalog/data/")?;
+    let origin = before(rest, b".json")?;
+    let text = text_of(origin)?;
+    origin_of(text)
+}
+
+// The commit and the place of a row.
+pub(crate) fn origin_in(base: &str, value: &Value<'_>) -> Option<Origin>
+    ensures { (row : Row) → IsRowValue row → value_view value.now ≡ outline (row_data base.now row) → result ≡ Some (record { number = row.number; place = row.place }) }
+{
+    match url_text(value) {
+        Some(url) => origin_behind(url.as_bytes(), base.as_bytes()),
+        None => None,
+    }
 }
 
 // The id of a row.
-pub(crate) fn id_in(alloc: Global, value: &Value) -> Result<Option<PackageId>, NoMemory>
-    ensures { (base : List ℕ) (row : Row) → view value.now ≡ row_data base row → IfOk result (λ found. found ≡ Some row.id) }
+pub(crate) fn id_in(alloc: Global, value: &Value<'_>) -> Result<Option<PackageId>, NoMemory>
+    ensures { (base : List ℕ) (row : Row) → value_view value.now ≡ outline (row_data base row) → IfOk result (λ found. found ≡ Some row.id) }
 {
     match id_text(value) {
         Some(text) => PackageId::read(alloc, text),
@@ -195,8 +211,8 @@ pub(crate) fn id_in(alloc: Global, value: &Value) -> Result<Option<PackageId>, N
 }
 
 // The version of a row.
-pub(crate) fn version_in(alloc: Global, value: &Value) -> Result<Option<Version>, NoMemory>
-    ensures { (base : List ℕ) (row : Row) → view value.now ≡ row_data base row → IfOk result (λ found. found ≡ Some row.version) }
+pub(crate) fn version_in(alloc: Global, value: &Value<'_>) -> Result<Option<Version>, NoMemory>
+    ensures { (base : List ℕ) (row : Row) → value_view value.now ≡ outline (row_data base row) → IfOk result (λ found. found ≡ Some row.version) }
 {
     match version_text(value) {
         Some(text) => Version::read(alloc, text),

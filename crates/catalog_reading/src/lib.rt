@@ -7,6 +7,7 @@ mod details;
 mod fields;
 mod leaf_reading;
 mod reading;
+mod trees;
 
 pub use catalog_doc::DocErr;
 pub use details::read_details;

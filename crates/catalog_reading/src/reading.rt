@@ -1,17 +1,19 @@
 // Readers of a page and of the index, which accept exactly what their writers write.
 ghost use Rattle.std.specs.Prelude.{◌≡◌, ◌<◌, ◌^◌, ◌↔◌, ℕ, List, Some, IfOk, IsErrOf, IsTrue, IsUtf8, map, option_map, length};
-ghost use Rattle.serde_json.specs.View.{items_of, items_view, view};
+ghost use Rattle.json.specs.Value.{items_view, value_view};
+ghost use Rattle.serde_json.specs.View.{items_of};
+ghost use Rattle.serde_json.specs.Written.{items_outline, outline};
 ghost use Rattle.catalog_doc.specs.Documents.{head_data, heads_data, index_data, index_text, page_data, page_text, row_data};
 ghost use Rattle.catalog_doc.specs.Names.{catalog_url, index_name};
 ghost use Rattle.catalog_doc.specs.Reading.{AreHeadValues, AreRowValues, IsHeadValue, IsRowValue};
 ghost use Rattle.catalog_doc.specs.declared.head.PageHead.{PageHead};
 ghost use Rattle.catalog_doc.specs.declared.row.Row.{Row};
 
-use crate::fields::{count_in, gone_in, id_in, number_in, place_in, stamp_in, version_in};
+use crate::fields::{Origin, count_in, gone_in, id_in, number_in, origin_in, stamp_in, version_in};
+use crate::trees::tree_of;
 use catalog_doc::{DocErr, PageHead, Row, index_bytes, page_bytes};
-use json_law::value_of;
+use json::{Scratch, Value};
 use pkg_meta::{Many, NoMemory, Text, Ticks};
-use serde_json::Value;
 use std::alloc::Global;
 
 // The path of the index below the base address.
@@ -24,41 +26,42 @@ pub(crate) fn is_same(bytes: &[u8], other: &[u8]) -> bool
 }
 
 // What a page or an index lists.
-fn listed(value: &Value) -> Option<&Vec<Value>>
-    ensures page { (base : List ℕ) (k : ℕ) (rows : List Row) → view value.now ≡ page_data base k rows → option_map (λ vs. items_view vs.now.items) result ≡ Some (items_of (map (row_data base) rows)) }
-    ensures index { (base : List ℕ) (heads : List PageHead) → view value.now ≡ index_data base heads → option_map (λ vs. items_view vs.now.items) result ≡ Some (items_of (heads_data base 0 heads)) }
+fn listed<'v, 'a>(value: &'v Value<'a>) -> Option<&'v Vec<Value<'a>>>
+    ensures page { (base : List ℕ) (k : ℕ) (rows : List Row) → value_view value.now ≡ outline (page_data base k rows) → option_map (λ vs. items_view vs.now.items) result ≡ Some (items_outline (items_of (map (row_data base) rows))) }
+    ensures index { (base : List ℕ) (heads : List PageHead) → value_view value.now ≡ outline (index_data base heads) → option_map (λ vs. items_view vs.now.items) result ≡ Some (items_outline (items_of (heads_data base 0 heads))) }
 {
-    value.get("items").and_then(Value::as_array)
+    match value.get("items") {
+        Some(Value::Array(items)) => Some(items),
+        _ => None,
+    }
 }
 
-// A row's number, stamp and kind.
+// A row's commit and place, stamp and kind.
 #[derive(Clone, Copy)]
 struct Marks {
-    number: u32,
+    origin: Origin,
     stamp: Ticks,
     gone: bool,
 }
 
-fn marks_in(value: &Value) -> Option<Marks>
-    ensures { (base : List ℕ) (row : Row) → IsRowValue row → view value.now ≡ row_data base row → result ≡ Some (record { number = row.number; stamp = row.stamp; gone = row.gone }) }
+fn marks_in(base: &str, value: &Value<'_>) -> Option<Marks>
+    ensures { (row : Row) → IsRowValue row → value_view value.now ≡ outline (row_data base.now row)
+        → result ≡ Some (record { origin = record { number = row.number; place = row.place }; stamp = row.stamp; gone = row.gone }) }
 {
-    let number = number_in(value)?;
+    let origin = origin_in(base, value)?;
     let stamp = stamp_in(value)?;
     let gone = gone_in(value)?;
     Some(Marks {
-        number,
+        origin,
         stamp,
         gone,
     })
 }
 
-fn row_in(alloc: Global, base: &str, value: &Value) -> Result<Option<Row>, NoMemory>
-    ensures { (row : Row) → IsRowValue row → view value.now ≡ row_data base.now row → IfOk result (λ found. found ≡ Some row) }
+fn row_in(alloc: Global, base: &str, value: &Value<'_>) -> Result<Option<Row>, NoMemory>
+    ensures { (row : Row) → IsRowValue row → value_view value.now ≡ outline (row_data base.now row) → IfOk result (λ found. found ≡ Some row) }
 {
-    let Some(marks) = marks_in(value) else {
-        return Ok(None);
-    };
-    let Some(place) = place_in(alloc, base, marks.number, value)? else {
+    let Some(marks) = marks_in(base, value) else {
         return Ok(None);
     };
     let Some(id) = id_in(alloc, value)? else {
@@ -68,8 +71,8 @@ fn row_in(alloc: Global, base: &str, value: &Value) -> Result<Option<Row>, NoMem
         return Ok(None);
     };
     Ok(Some(Row {
-        number: marks.number,
-        place,
+        number: marks.origin.number,
+        place: marks.origin.place,
         stamp: marks.stamp,
         id,
         version,
@@ -77,8 +80,8 @@ fn row_in(alloc: Global, base: &str, value: &Value) -> Result<Option<Row>, NoMem
     }))
 }
 
-fn rows_of(alloc: Global, base: &str, values: &[Value]) -> Result<Option<Many<Row>>, NoMemory>
-    ensures { (rows : List Row) → AreRowValues rows → map view values.now ≡ map (row_data base.now) rows → IfOk result (λ found. found ≡ Some rows) }
+fn rows_of(alloc: Global, base: &str, values: &[Value<'_>]) -> Result<Option<Many<Row>>, NoMemory>
+    ensures { (rows : List Row) → AreRowValues rows → items_view values.now ≡ items_outline (items_of (map (row_data base.now) rows)) → IfOk result (λ found. found ≡ Some rows) }
 {
     let mut rows = Many::new(alloc);
     for value in values {
@@ -91,8 +94,8 @@ fn rows_of(alloc: Global, base: &str, values: &[Value]) -> Result<Option<Many<Ro
 }
 
 // The rows in a page's value.
-fn rows_in(alloc: Global, base: &str, value: &Value) -> Result<Option<Many<Row>>, NoMemory>
-    ensures { (k : ℕ) (rows : List Row) → AreRowValues rows → view value.now ≡ page_data base.now k rows → IfOk result (λ found. found ≡ Some rows) }
+fn rows_in(alloc: Global, base: &str, value: &Value<'_>) -> Result<Option<Many<Row>>, NoMemory>
+    ensures { (k : ℕ) (rows : List Row) → AreRowValues rows → value_view value.now ≡ outline (page_data base.now k rows) → IfOk result (λ found. found ≡ Some rows) }
 {
     match listed(value) {
         Some(values) => rows_of(alloc, base, values.as_slice()),
@@ -108,7 +111,8 @@ pub fn read_page(alloc: Global, base: &str, page: u32, bytes: &[u8]) -> Result<M
     ensures exact { (rows : List Row) → AreRowValues rows → length rows < 2 ^ 64 → bytes.now ≡ page_text base.now page rows → IfOk result (λ found. found ≡ rows) }
     ensures damaged { IsErrOf result DocErr.Damaged → (rows : List Row) → AreRowValues rows → length rows < 2 ^ 64 → bytes.now ≡ page_text base.now page rows → ⊥ }
 {
-    let Some(value) = value_of(alloc, bytes)? else {
+    let mut scratch = Scratch::new(alloc);
+    let Some(value) = tree_of(alloc, bytes, &mut scratch)? else {
         return Err(DocErr::Damaged);
     };
     let Some(rows) = rows_in(alloc, base, &value)? else {
@@ -122,8 +126,8 @@ pub fn read_page(alloc: Global, base: &str, page: u32, bytes: &[u8]) -> Result<M
     }
 }
 
-fn head_in(value: &Value) -> Option<PageHead>
-    ensures { (base : List ℕ) (k : ℕ) (head : PageHead) → IsHeadValue head → view value.now ≡ head_data base k head → result ≡ Some head }
+fn head_in(value: &Value<'_>) -> Option<PageHead>
+    ensures { (base : List ℕ) (k : ℕ) (head : PageHead) → IsHeadValue head → value_view value.now ≡ outline (head_data base k head) → result ≡ Some head }
 {
     let number = number_in(value)?;
     let stamp = stamp_in(value)?;
@@ -135,8 +139,8 @@ fn head_in(value: &Value) -> Option<PageHead>
     })
 }
 
-fn heads_of(alloc: Global, values: &[Value]) -> Result<Option<Many<PageHead>>, NoMemory>
-    ensures { (base : List ℕ) (heads : List PageHead) → AreHeadValues heads → map view values.now ≡ heads_data base 0 heads → IfOk result (λ found. found ≡ Some heads) }
+fn heads_of(alloc: Global, values: &[Value<'_>]) -> Result<Option<Many<PageHead>>, NoMemory>
+    ensures { (base : List ℕ) (heads : List PageHead) → AreHeadValues heads → items_view values.now ≡ items_outline (items_of (heads_data base 0 heads)) → IfOk result (λ found. found ≡ Some heads) }
 {
     let mut heads = Many::new(alloc);
     for value in values {
@@ -149,8 +153,8 @@ fn heads_of(alloc: Global, values: &[Value]) -> Result<Option<Many<PageHead>>, N
 }
 
 // The heads in an index's value.
-fn heads_in(alloc: Global, value: &Value) -> Result<Option<Many<PageHead>>, NoMemory>
-    ensures { (base : List ℕ) (heads : List PageHead) → AreHeadValues heads → view value.now ≡ index_data base heads → IfOk result (λ found. found ≡ Some heads) }
+fn heads_in(alloc: Global, value: &Value<'_>) -> Result<Option<Many<PageHead>>, NoMemory>
+    ensures { (base : List ℕ) (heads : List PageHead) → AreHeadValues heads → value_view value.now ≡ outline (index_data base heads) → IfOk result (λ found. found ≡ Some heads) }
 {
     match listed(value) {
         Some(values) => heads_of(alloc, values.as_slice()),
@@ -169,15 +173,15 @@ fn base_of(url: &str) -> Option<&str>
 }
 
 // The URL that an index says it has.
-fn url_in(value: &Value) -> Option<&str>
-    ensures { (base : List ℕ) (heads : List PageHead) → view value.now ≡ index_data base heads → option_map (λ url. url.now) result ≡ Some (catalog_url base index_name) }
+fn url_in<'a>(value: &Value<'a>) -> Option<&'a str>
+    ensures { (base : List ℕ) (heads : List PageHead) → value_view value.now ≡ outline (index_data base heads) → option_map (λ url. url.now) result ≡ Some (catalog_url base index_name) }
 {
     value.get("@id").and_then(Value::as_str)
 }
 
 // The base address that stands in an index.
-fn base_in(value: &Value) -> Option<&str>
-    ensures { (base : List ℕ) (heads : List PageHead) → IsUtf8 base → view value.now ≡ index_data base heads → option_map (λ b. b.now) result ≡ Some base }
+fn base_in<'a>(value: &Value<'a>) -> Option<&'a str>
+    ensures { (base : List ℕ) (heads : List PageHead) → IsUtf8 base → value_view value.now ≡ outline (index_data base heads) → option_map (λ b. b.now) result ≡ Some base }
 {
     match url_in(value) {
         Some(url) => base_of(url),
@@ -204,7 +208,8 @@ pub fn read_index(alloc: Global, bytes: &[u8]) -> Result<(Text, Many<PageHead>),
     ensures exact { (base : List ℕ) (heads : List PageHead) → IsUtf8 base → AreHeadValues heads → length heads < 2 ^ 32 → bytes.now ≡ index_text base heads → IfOk result (λ read. (read.0 ≡ base) × (read.1 ≡ heads)) }
     ensures damaged { IsErrOf result DocErr.Damaged → (base : List ℕ) (heads : List PageHead) → IsUtf8 base → AreHeadValues heads → length heads < 2 ^ 32 → bytes.now ≡ index_text base heads → ⊥ }
 {
-    let Some(value) = value_of(alloc, bytes)? else {
+    let mut scratch = Scratch::new(alloc);
+    let Some(value) = tree_of(alloc, bytes, &mut scratch)? else {
         return Err(DocErr::Damaged);
     };
     let Some(base) = base_in(&value) else {

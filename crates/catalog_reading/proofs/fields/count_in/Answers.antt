@@ -1,8 +1,9 @@
-use Rattle.std.proofs.Common.{◌≡◌, ◌<◌, ◌^◌, ◌∙◌, ap, sym, subst, Some, ℕ}
-use Rattle.catalog_reading.proofs.CommitIds.{narrowed}
+use Rattle.catalog_reading.proofs.Readable.{is_read, not_read}
 use Rattle.catalog_reading.proofs.fields.count_in.Goals as goal
 
 pub returns-in-Some : goal.returns-in-Some
 returns-in-Some c = λ base k head fits seen.
-    let same : c.in-Some.number ≡ head.count = (let both : Some c.in-Some.number ≡ Some head.count = sym c.in-Some.is ∙ c.count.ensures.head base k head seen in cc) in
-    narrowed c.try_from.result c.in-Some.number c.ok.result c.try_from.ensures c.ok.ensures.value (subst (λ (n : ℕ). n < 2 ^ 32) (sym same) fits.count) ∙ ap Some same
+    c.decimal_of.ensures head.count fits.count (is_read _ _ _ _ c.in-Some.is (c.count_text.ensures.head base k head seen))
+
+pub returns-in-None : goal.returns-in-None
+returns-in-None c = λ base k head fits seen. absurd (not_read _ _ _ c.in-None.is (c.count_text.ensures.head base k head seen))

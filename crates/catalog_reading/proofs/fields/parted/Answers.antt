@@ -1,7 +1,7 @@
 use Rattle.std.proofs.Common.{arith, decimal, lit<}
 use Rattle.std.proofs.lemmas.Str.Pattern.{split_after}
 use Rattle.catalog_doc.proofs.DocNames.{no_slash_in}
-use Rattle.catalog_reading.proofs.details.parted.Goals as goal
+use Rattle.catalog_reading.proofs.fields.parted.Goals as goal
 
 pub returns : goal.returns
 returns c = λ n p fits is.
