@@ -23,7 +23,7 @@ pub use laws::{
 pub use leaf::{details_bytes, leaf_bytes};
 pub use names::{
     FIRST_PAGE_NAME, INDEX_NAME, commit_id, leaf_name, leaf_url, nupkg_name, nuspec_name,
-    page_name, place_front, staged_name,
+    page_name, staged_name,
 };
 pub use page::{joined_head, joined_page_bytes, last_of, longer_page_bytes, page_bytes};
 pub use row::Row;

@@ -1,5 +1,5 @@
 // Names in the catalog's area, URLs and commit ids.
-ghost use Rattle.std.specs.Prelude.{◌≡◌, ◌++◌, IfOk, codes, decimal, string_bytes};
+ghost use Rattle.std.specs.Prelude.{◌≡◌, IfOk, string_bytes};
 ghost use Rattle.catalog_doc.specs.Names.{catalog_url, index_name, page_name, leaf_name, nupkg_name, nuspec_name, place_name, staged_name};
 ghost use Rattle.catalog_doc.specs.Documents.{commit_id};
 
@@ -80,13 +80,6 @@ pub fn leaf_url(alloc: Global, base: &str, number: u32, place: u32) -> Result<St
     let mut url = String::with_capacity(alloc, base.len().saturating_add(42))?;
     write!(url, "{base}v3/catalog/data/{number}/{place}.json")?;
     Ok(url)
-}
-
-/// What stands before the place in the URL of a commit's leaves.
-pub fn place_front(alloc: Global, base: &str, number: u32) -> Result<String, AllocError>
-    ensures { IfOk result (λ front. string_bytes front ≡ base.now ++ (codes "v3/catalog/data/" ++ (decimal number ++ codes "/"))) }
-{
-    format!(in alloc; "{base}v3/catalog/data/{number}/")
 }
 
 #[tactic(auto, unfolding(crate::specs::Documents::commit_id))]

@@ -18,7 +18,7 @@ use Rattle.pkg_meta.proofs.Lists.{list_of-items_of}
 use Rattle.catalog_doc.specs.Documents.{details_leaf_table, leaf_data}
 use Rattle.catalog_doc.specs.Names.{place_name}
 use Rattle.catalog_doc.proofs.Slotted.{table_get}
-use Rattle.catalog_reading.specs.Shown.{number_at, ShowsDetails, words_at}
+use Rattle.catalog_reading.specs.Shown.{number_under, ShowsDetails, words_at}
 
 module _ (base : List ℕ) (n p stamp : ℕ) (d : Details) where
   abbrev leaf_table : List Slot
@@ -235,7 +235,7 @@ module _ (d : Details) (leaf : Data) (shows : ShowsDetails d leaf) where
   pub shows_listed : flag_at (codes "listed") leaf ≡ Some d.listed
   shows_listed = ap (option_and_then as_bool) (shows.1.1.1.1.1.1.1.1.0)
 
-  pub shows_size : number_at (codes "packageSize") leaf ≡ Some d.size
+  pub shows_size : number_under (codes "packageSize") leaf ≡ Some d.size
   shows_size = ap (λ (o : Option Data). option_and_then (λ (x : Data). option_and_then as_u64 (as_number x)) o) (shows.1.1.1.1.1.1.1.1.1.1.1.1.1.0)
 
   pub shows_require_license : flag_at (codes "requireLicenseAcceptance") leaf ≡ d.meta.require_license

@@ -18,8 +18,8 @@ abbrev pub ShowsDetails : Details → Data → Type 0
 ShowsDetails d leaf = AreShown leaf (details_table d)
 
 -- the whole number under a name, where there is one
-abbrev pub number_at : List ℕ → Data → Option ℕ
-number_at name leaf = option_and_then (λ (d : Data). option_and_then as_u64 (as_number d)) (get name leaf)
+abbrev pub number_under : List ℕ → Data → Option ℕ
+number_under name leaf = option_and_then (λ (d : Data). option_and_then as_u64 (as_number d)) (get name leaf)
 
 -- the texts that details may leave out
 abbrev pub words_at : Data → Words

@@ -5,7 +5,7 @@ ghost use Rattle.serde_json.specs.View.{view};
 ghost use Rattle.pkg_meta.specs.Trees.{details_tree};
 ghost use Rattle.pkg_meta.specs.declared.item.Details.{Details};
 ghost use Rattle.catalog_doc.specs.Reading.{IsDetailsValue};
-ghost use Rattle.catalog_reading.specs.Shown.{number_at, ShowsDetails, words_at};
+ghost use Rattle.catalog_reading.specs.Shown.{number_under, ShowsDetails, words_at};
 
 use crate::dependencies::groups_of;
 use crate::fields::{Origin, moment_of, origin_of};
@@ -36,7 +36,7 @@ fn created_in(value: &Value) -> Option<Ticks>
 
 // The number under a name, where there is one.
 fn number_in(value: &Value, name: &str) -> Option<u64>
-    ensures { result ≡ number_at name.now (view value.now) }
+    ensures { result ≡ number_under name.now (view value.now) }
 {
     value.get(name).and_then(Value::as_u64)
 }
