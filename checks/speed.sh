@@ -3,7 +3,7 @@
 # same puts with all their syncs. The two take turns, publish by publish, so that the disk is the same for both. Then the
 # three hives of catalogs of 128, 256 and 512 packages, each hive by one process, beside the bare puts of the same
 # documents. Then commits of 64 packages beside the same packages one by one, and openings of catalogs of 2,000 to 200,000
-# items beside a program of Python that reads and parses the same pages with its own JSON reader. Then jobs of catalogs of
+# items beside a program that reads and parses the same pages: of Rust with stock serde_json, or else of Python. Then jobs of catalogs of
 # 2,000 and 10,000 versions, the first of each beside the bare puts that it makes, and jobs behind one publish each: of those
 # it is checked that they read no leaf but the new one and no state of another id, and put nothing of another id. Last the
 # requests of a link in memory that are served in a second, beside the same loop in Rust over stock httparse, with the
@@ -11,8 +11,8 @@
 # or the program is missing, and the last part also where `host_speed`, cargo or the source of httparse is.
 #
 # Use: sh checks/speed.sh [PROGRAM [SERVING]]
-# PROGRAM is crates/feed/out/feed unless it is given, and SERVING crates/host_speed/out/host_speed. The source of httparse is
-# looked for at $HTTPARSE, and else where Debian's librust-httparse-dev puts it.
+# PROGRAM is crates/feed/out/feed unless it is given, and SERVING crates/host_speed/out/host_speed. The sources of httparse and
+# serde_json are looked for in $REGISTRY, and else where Debian's librust-httparse-dev and librust-serde-json-dev put them.
 
 here=$(dirname "$0")
 feed=${1:-$here/../crates/feed/out/feed}
@@ -44,6 +44,7 @@ SIZES, HIVES = [128, 256, 512], ["plain", "semver2", "content"]
 ITEMS, PAGE = [2_000, 20_000, 200_000], 512
 IDS, VERSIONS, TURNS = [100, 500], 20, 3
 HASH = "3a81oZNherrMQXNJriBBMRLm+k6JqX6iCp7u5ktV05ohkpkqJ0/BqDa6PCOj/uu9RU1EI2Q86A4qmslPpUyknw=="
+REGISTRY = os.environ.get("REGISTRY", "/usr/share/cargo/registry")
 PARSE = "import json, sys; [json.load(open(f'{sys.argv[1]}/page{k}.json')) for k in range(int(sys.argv[2]))]"
 
 def publish(number):
@@ -55,6 +56,12 @@ def publish(number):
     if ran.returncode != 0:
         sys.exit("checks/speed.sh: a publish failed")
     return spent
+
+def start():
+    """The start of a process of `feed` that calls no store."""
+    begin = time.monotonic()
+    subprocess.run([feed, "--version"], stdout=subprocess.DEVNULL)
+    return time.monotonic() - begin
 
 def bare_puts(folder):
     os.makedirs(folder)
@@ -189,29 +196,35 @@ def best_of(times, words):
             sys.exit(f"checks/speed.sh: {words} ended with {status}")
     return min(spent)
 
+def rust_program(source, package, registry):
+    """A program of Rust that needs one package, if it can be made: the package's sources are looked for in this folder."""
+    found = sorted(glob.glob(f"{registry}/{package}-[0-9]*"))
+    if not found or not shutil.which("cargo"):
+        return None
+    folder = f"{work}/{source}"
+    os.makedirs(folder + "/src")
+    os.makedirs(folder + "/.cargo")
+    shutil.copy(f"{here}/{source}.rs", folder + "/src/main.rs")
+    version = found[-1].rsplit("-", 1)[1]
+    with open(folder + "/Cargo.toml", "w", encoding="utf-8") as file:
+        file.write(f'[package]\nname = "{source}"\nversion = "0.1.0"\nedition = "2021"\n'
+                   f'[dependencies]\n{package} = "={version}"\n[profile.release]\nopt-level = 3\n')
+    with open(folder + "/.cargo/config.toml", "w", encoding="utf-8") as file:
+        file.write(f'[source.crates-io]\nreplace-with = "here"\n[source.here]\ndirectory = "{registry}"\n')
+    made = subprocess.run(["cargo", "build", "--release", "--offline", "--quiet"], cwd=folder, stderr=subprocess.DEVNULL)
+    return f"{folder}/target/release/{source}" if made.returncode == 0 else None
+
 def openings():
+    parser = rust_program("parse", "serde_json", REGISTRY)
+    reader, name = ([parser], "serde_json in Rust") if parser else ([sys.executable, "-c", PARSE], "Python's reader")
     for items in ITEMS:
         folder = f"{work}/items{items}"
         pages = catalog_of(folder + "/catalog", items)
         length = sum(os.path.getsize(f"{folder}/catalog/page{page}.json") for page in range(pages))
         ours, memory = best_of(3, [feed, folder, "get", "/v3/catalog/index.json"])
-        theirs, _ = best_of(3, [sys.executable, "-c", PARSE, folder + "/catalog", str(pages)])
+        theirs, _ = best_of(3, [*reader, folder + "/catalog", str(pages)])
         print(f"opening {items} items, {length / (1 << 20):.1f} MiB of pages: {ours * 1000:.0f} ms, {ours / items * 1e6:.2f} us an item, "
-              f"{memory / 1024:.1f} MiB of memory at the most; Python's reader {theirs * 1000:.0f} ms, ratio {ours / theirs:.2f}")
-
-def beside_httparse():
-    """The program of the same loop in Rust, if it can be made."""
-    sources = [os.environ["HTTPARSE"]] if "HTTPARSE" in os.environ else glob.glob("/usr/share/cargo/registry/httparse-*")
-    if not sources or not shutil.which("cargo") or not os.access(serving, os.X_OK):
-        return None
-    folder = work + "/serve"
-    os.makedirs(folder + "/src")
-    shutil.copy(here + "/serve.rs", folder + "/src/main.rs")
-    with open(folder + "/Cargo.toml", "w", encoding="utf-8") as file:
-        file.write(f'[package]\nname = "serve"\nversion = "0.1.0"\nedition = "2021"\n'
-                   f'[dependencies]\nhttparse = {{ path = "{sources[0]}" }}\n[profile.release]\nopt-level = 3\n')
-    made = subprocess.run(["cargo", "build", "--release", "--offline", "--quiet"], cwd=folder, stderr=subprocess.DEVNULL)
-    return folder + "/target/release/serve" if made.returncode == 0 else None
+              f"{memory / 1024:.1f} MiB of memory at the most; {name} {theirs * 1000:.0f} ms, ratio {ours / theirs:.2f}")
 
 def answered(program, requests, environment=None):
     begin = time.monotonic()
@@ -228,7 +241,7 @@ def allocations(program):
     return (many - few) / 1000
 
 def requests():
-    theirs = beside_httparse()
+    theirs = rust_program("serve", "httparse", REGISTRY)
     made = subprocess.run(["cc", "-O2", "-shared", "-fPIC", "-o", work + "/allocs.so", here + "/allocs.c"])
     if theirs is None or made.returncode != 0:
         print("requests of a link: skipped, since there is no program of it, no cargo or no httparse")
@@ -305,14 +318,16 @@ def rounds():
 if subprocess.run([feed, store, "init", "http://f.test/"], stdout=subprocess.DEVNULL).returncode != 0:
     sys.exit("checks/speed.sh: init failed")
 child = bare_puts(plain)
-ours, theirs, done = 0.0, 0.0, 0
+ours, theirs, starts, done = 0.0, 0.0, 0.0, 0
 while done < MOST and ours + theirs < LIMIT:
     done += 1
     ours += publish(done)
     theirs += puts(child, done)
+    starts += start()
 child.stdin.close()
 child.wait()
-print(f"{done} publishes: {ours / done * 1000:.2f} ms each, bare puts {theirs / done * 1000:.2f} ms, ratio {ours / theirs:.2f}")
+print(f"{done} publishes: {ours / done * 1000:.2f} ms each, of which {starts / done * 1000:.2f} ms are the start of a process; "
+      f"bare puts {theirs / done * 1000:.2f} ms, ratio {ours / theirs:.2f}")
 for size in SIZES:
     while done < size:
         done += 1
