@@ -11,7 +11,7 @@ use Rattle.pkg_meta.specs.Values.{flag_at, text_at}
 use Rattle.pkg_meta.specs.declared.entry.Entry.{Entry}
 use Rattle.pkg_meta.specs.declared.state.StateDoc.{StateDoc}
 use Rattle.catalog_doc.proofs.RowData.{same_stamp}
-use Rattle.catalog_reading.specs.Shown.{number_at}
+use Rattle.catalog_reading.specs.Shown.{number_under}
 use Rattle.catalog_reading.proofs.Shows.{strings_back, tree_shows}
 use Rattle.area_laws.proofs.Leaves.{details_same}
 use Rattle.hive_state.specs.Laws.{StatesDiffer}
@@ -31,8 +31,8 @@ tree_at x = first_or (get (codes "details") x)
 same_entry : (e f : Entry) → IsEntryValue e → IsEntryValue f → entry_data e ≡ entry_data f → e ≡ f
 unfolding tree_at
 same_entry e f v w same =
-    let number : e.number ≡ f.number = same_Some e.number f.number (ap (number_at (codes "number")) same) in
-    let place : e.place ≡ f.place = same_Some e.place f.place (ap (number_at (codes "place")) same) in
+    let number : e.number ≡ f.number = same_Some e.number f.number (ap (number_under (codes "number")) same) in
+    let place : e.place ≡ f.place = same_Some e.place f.place (ap (number_under (codes "place")) same) in
     let tree : details_tree e.details ≡ details_tree f.details = ap tree_at same in
     let details : e.details ≡ f.details =
     details_same e.details f.details (details_tree f.details) v.details w.details (tree_shows e.details (details_tree f.details) (sym tree)) (tree_shows f.details (details_tree f.details) refl) in
@@ -53,8 +53,8 @@ same_entries (e ∷ es) (f ∷ fs) v w same =
 
 same_data : (s t : StateDoc) → IsStateValue s → IsStateValue t → state_data s ≡ state_data t → s ≡ t
 same_data s t v w same =
-    let at : s.at ≡ t.at = same_Some s.at t.at (ap (number_at (codes "at")) same) in
-    let touched : s.touched ≡ t.touched = same_Some s.touched t.touched (ap (number_at (codes "touched")) same) in
+    let at : s.at ≡ t.at = same_Some s.at t.at (ap (number_under (codes "at")) same) in
+    let touched : s.touched ≡ t.touched = same_Some s.touched t.touched (ap (number_under (codes "touched")) same) in
     let stamp : s.touched_stamp ≡ t.touched_stamp =
     same_stamp s.touched_stamp t.touched_stamp v.touched_stamp w.touched_stamp
     (same_Some (stamp_text s.touched_stamp) (stamp_text t.touched_stamp) (ap (text_at (codes "touchedTimeStamp")) same)) in
