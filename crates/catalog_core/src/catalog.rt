@@ -147,7 +147,8 @@ impl<B: Blobs> Catalog<B> {
         // Settled, the document is got once where the catalog has it, and nothing else is called, of every area.
         ensures runs { self.old.settled ≡ true → RunsDoc self.old name.now (B.seen self.old.area) (B.seen self.new.area) result }
         ensures stays { StaysOpen self.old self.new (B.seen self.old.area) (B.seen self.new.area) (IsErrOf result ReadErr.Fault) }
-        ensures held { (now : Area) → (B.seen self.new.area).held ≡ Some now → IfOk result (λ found. IfSome found (λ bytes. get now name.now ≡ Some bytes)) }
+        ensures held { (now : Area) → (B.seen self.new.area).held ≡ Some now
+            → IfOk result (λ found. IfSome found (λ bytes. get now name.now ≡ Some bytes)) }
         ensures damaged { (m now : Area) → (B.seen self.old.area).held ≡ Some m → (B.seen self.new.area).held ≡ Some now
             → IfDamagedRead result (λ n. IsUnsettled m self.old n ⊎ IsAbsent name.now now n) }
     {
@@ -171,7 +172,8 @@ impl<B: Blobs> Catalog<B> {
         ensures runs { self.old.settled ≡ true
             → RunsReading (Get (staged_name number place nuspec) ∷ []) (B.seen self.old.area) (B.seen self.new.area) result }
         ensures stays { StaysOpen self.old self.new (B.seen self.old.area) (B.seen self.new.area) (IsErrOf result ReadErr.Fault) }
-        ensures held { (now : Area) → (B.seen self.new.area).held ≡ Some now → IfOk result (λ bytes. get now (staged_name number place nuspec) ≡ Some bytes) }
+        ensures held { (now : Area) → (B.seen self.new.area).held ≡ Some now
+            → IfOk result (λ bytes. get now (staged_name number place nuspec) ≡ Some bytes) }
         ensures damaged { (m now : Area) → (B.seen self.old.area).held ≡ Some m → (B.seen self.new.area).held ≡ Some now
             → IfDamagedRead result (λ n. IsUnsettled m self.old n ⊎ IsAbsent (staged_name number place nuspec) now n) }
     {

@@ -66,7 +66,8 @@ impl<B: Blobs> Catalog<B> {
         ensures moments { (cs : List Stored) → IsReady self.old (B.seen self.old.area) cs
             → LeavesOnly (B.seen self.old.area) (B.seen self.new.area) (λ left. WithOrWithout cs changes.now now (SpellsCatalog left self.old.base)) }
         ensures counted { CountsFault (B.seen self.old.area).faults (B.seen self.new.area).faults (IsErrOf result CommitErr.Fault) }
-        ensures damaged { (now : Area) → (B.seen self.new.area).held ≡ Some now → IfDamagedCommit result (IsLastDamaged now self.new.base self.new.kept.rows) }
+        ensures damaged { (now : Area) → (B.seen self.new.area).held ≡ Some now
+            → IfDamagedCommit result (IsLastDamaged now self.new.base self.new.kept.rows) }
         ensures settled { self.old.settled ≡ true → SettlesIf self.new.settled result }
         ensures base { self.new.base ≡ self.old.base }
     {

@@ -56,7 +56,8 @@ impl<B: Blobs> Catalog<B> {
         ensures settled { OnOk result (self.new.settled ≡ true) }
         ensures held { (now : Area) → (B.seen self.new.area).held ≡ Some now → IfOk result (AreCommitsAt now self.new.base self.new.kept.rows) }
         ensures damaged { (m now : Area) → (B.seen self.old.area).held ≡ Some m → (B.seen self.new.area).held ≡ Some now
-            → IfDamagedRead result (λ n. IsUnsettled m self.old n ⊎ ((row : Row) × Contains self.new.kept.rows row × IsNoLeafOf now self.new.base row n)) }
+            → IfDamagedRead result (λ n. IsUnsettled m self.old n
+            ⊎ ((row : Row) × Contains self.new.kept.rows row × IsNoLeafOf now self.new.base row n)) }
     {
         self.settle(alloc)?;
         commits_at(

@@ -13,7 +13,7 @@ ghost use Rattle.catalog_doc.specs.Documents.{index_text};
 ghost use Rattle.catalog_doc.specs.Names.{index_name};
 ghost use Rattle.catalog_doc.specs.Spelled.{SpellsCatalog};
 ghost use Rattle.catalog_opening.specs.Errors.{IfDamagedIn, IfDamagedOpening};
-ghost use Rattle.catalog_opening.specs.Openings.{IsAllowedBase, IsDamagedOf, IsOpeningPlan, IsStoreOf, KeepsSpelling, Mends, RunsOpening};
+ghost use Rattle.catalog_opening.specs.Openings.{IsAllowedBase, IsDamagedOf, IsOpeningPlan, IsStoreOf, IsToldBase, KeepsSpelling, Mends, RunsOpening};
 ghost use Rattle.catalog_core.specs.Opened.{IsOpenFor};
 ghost use Rattle.catalog_core.specs.Openings.{IsFirstArea, IsRefusedOpening, MakesFirst, OpensAs, RunsInit, StopsInit, StopsOpening};
 
@@ -58,15 +58,18 @@ pub fn init<B: Blobs>(alloc: Global, area: B, base: &str) -> Result<Catalog<B>, 
         × ((B.seen c.area).held ≡ Some (with_blob index_name (index_text base.now []) m))) }
     ensures already { IfErr result (λ e. (m : Area) → (B.seen area).held ≡ Some m → e.0 ≡ InitErr.Already
         → IsSome (get m index_name) × ((B.seen e.1).held ≡ Some m)) }
-    ensures left { IfErr result (λ e. (m : Area) → (B.seen area).held ≡ Some m → (now : Area) × ((B.seen e.1).held ≡ Some now) × IsFirstArea base.now m now) }
+    ensures left { IfErr result (λ e. (m : Area) → (B.seen area).held ≡ Some m → (now : Area)
+        × ((B.seen e.1).held ≡ Some now) × IsFirstArea base.now m now) }
 
     // A crash at each moment leaves the area as it was, or with that index.
     ensures moments { IfOk result (λ c. (m : Area) → (B.seen area).held ≡ Some m → LeavesOnly (B.seen area) (B.seen c.area) (IsFirstArea base.now m)) }
-    ensures moments_refused { IfErr result (λ e. (m : Area) → (B.seen area).held ≡ Some m → LeavesOnly (B.seen area) (B.seen e.1) (IsFirstArea base.now m)) }
+    ensures moments_refused { IfErr result (λ e. (m : Area) → (B.seen area).held ≡ Some m
+        → LeavesOnly (B.seen area) (B.seen e.1) (IsFirstArea base.now m)) }
 
     // The index is got, and then put, up to the first call that isn't done.
     ensures runs { IfOk result (λ c. (m : Area) → (B.seen area).held ≡ Some m → MakesFirst base.now (get m index_name) (B.seen area) (B.seen c.area)) }
-    ensures runs_refused { IfErr result (λ e. (m : Area) → (B.seen area).held ≡ Some m → StopsInit base.now (get m index_name) e.0 (B.seen area) (B.seen e.1)) }
+    ensures runs_refused { IfErr result (λ e. (m : Area) → (B.seen area).held ≡ Some m
+        → StopsInit base.now (get m index_name) e.0 (B.seen area) (B.seen e.1)) }
     ensures counted { IfOk result (λ c. CountsFault (B.seen area).faults (B.seen c.area).faults ⊥) }
     ensures counted_refused { IfErr result (λ e. CountsFault (B.seen area).faults (B.seen e.1).faults (e.0 ≡ InitErr.Fault)) }
 {
@@ -90,11 +93,13 @@ struct Opening {
 fn open<B: Blobs>(alloc: Global, area: &mut B, given: Option<&str>) -> Result<Opening, OpenErr>
     ensures opens { (base : List ℕ) (cs : List Stored) → IsCatalog cs → IsStoreOf (B.seen area.old) base cs
         → OpensAs (option_map (λ t. t.now) given.entry) base cs (B.seen area.old) (B.seen area.new) result }
-    ensures runs { (m : Area) (base : List ℕ) (cs : List Stored) (plan : List Act) → IsCatalog cs → (B.seen area.old).held ≡ Some m → SpellsCatalog m base cs
+    ensures runs { (m : Area) (base : List ℕ) (cs : List Stored) (plan : List Act) → IsCatalog cs
+        → (B.seen area.old).held ≡ Some m → SpellsCatalog m base cs
         → IsOpeningPlan m base cs plan → RunsOpening plan (B.seen area.old) (B.seen area.new) result }
     ensures mends { Mends (B.seen area.old) (B.seen area.new) (IsErrOf result OpenErr.Fault) }
     ensures missing { IsErrOf result OpenErr.Missing → (m : Area) → (B.seen area.old).held ≡ Some m → get m index_name ≡ None }
     ensures damaged { (m : Area) → (B.seen area.old).held ≡ Some m → IfDamagedOpening result (IsDamagedOf m) }
+    ensures other_base { (m : Area) → (B.seen area.old).held ≡ Some m → IfErr result (IsToldBase (option_map (λ t. t.now) given.entry) m) }
 {
     let Known { base, rows, pages } = read_catalog(alloc, area, given)?;
     match Rows::of(alloc, rows, pages) {
@@ -136,6 +141,7 @@ pub fn open_catalog<B: Blobs>(
     ensures mends_refused { IfErr result (λ e. Mends (B.seen area) (B.seen e.1) (e.0 ≡ OpenErr.Fault)) }
     ensures missing { IfErr result (λ e. e.0 ≡ OpenErr.Missing → (m : Area) → (B.seen area).held ≡ Some m → get m index_name ≡ None) }
     ensures damaged { IfErr result (λ e. (m : Area) → (B.seen area).held ≡ Some m → IfDamagedIn e.0 (IsDamagedOf m)) }
+    ensures other_base { IfErr result (λ e. (m : Area) → (B.seen area).held ≡ Some m → IsToldBase (option_map (λ t. t.now) base.entry) m e.0) }
 {
     let mut area = area;
     match open(alloc, &mut area, base) {

@@ -1,16 +1,18 @@
 -- The steps of an opening over pages that fit their index.
 use Rattle.std.proofs.Common.{◌≡◌, ◌≢◌, ◌+◌, ℕ, List, [], ◌∷◌, ◌++◌, length, Bool, true, false, Option, Some, None, Err, Result, inl, inr, refl, sym, ◌∙◌, ap, subst}
-use Rattle.std.specs.Prelude.{◌↔◌, IsErrOf, IsTrue}
+use Rattle.std.specs.Prelude.{◌↔◌, IfErr, IsErrOf, IsTrue}
+use Rattle.std.specs.FinMap.{get}
 use Rattle.blob_store.specs.Area.{Area}
 use Rattle.blob_store.specs.Events.{Act, Get}
 use Rattle.blob_store.specs.Plans.{Makes}
 use Rattle.blob_store.specs.Seen.{Seen}
 use Rattle.blob_store.proofs.InMemory.{some_all, some_early}
+use Rattle.catalog_doc.specs.Documents.{index_text}
 use Rattle.catalog_doc.specs.Names.{index_name}
 use Rattle.catalog_doc.specs.declared.head.PageHead.{PageHead}
 use Rattle.catalog_doc.specs.declared.row.Row.{Row}
 use Rattle.catalog_opening.specs.Errors.{IfDamagedBy, IfDamagedIn, IfDamagedOpening, open_err_of}
-use Rattle.catalog_opening.specs.Openings.{IsMending, mending, Mends, opening_gets, Opens, TellsBases}
+use Rattle.catalog_opening.specs.Openings.{IsMending, IsToldBase, mending, Mends, opening_gets, Opens, TellsBases}
 use Rattle.catalog_opening.specs.Pages.{IsHeldAs}
 use Rattle.catalog_opening.specs.Plans.{HaltsAt, index_change, page_gets}
 use Rattle.catalog_opening.specs.declared.error.OpenErr.{OpenErr}
@@ -117,3 +119,23 @@ held_as m base own heads owned pages same alike held = subst (λ (b : List ℕ).
 
 pub mends_same : (base own : List ℕ) (heads owned pages : List PageHead) (acts : List Act) → own ≡ base → owned ≡ heads → IsMending base heads pages acts → IsMending own owned pages acts
 mends_same base own heads owned pages acts same alike mends = subst (λ (b : List ℕ). IsMending b owned pages acts) (sym same) (subst (λ (l : List PageHead). IsMending base l pages acts) (sym alike) mends)
+
+-- a read tells no base address
+pub none_told : (given : Option (List ℕ)) (m : Area) (error : ReadErr) → IsToldBase given m (open_err_of error)
+none_told given m (Damaged name) = tt
+none_told given m Fault = tt
+none_told given m Memory = tt
+
+-- another base address than that of the index held is given
+pub told_base : (given : Option (List ℕ)) (m : Area) (base other : List ℕ) (heads : List PageHead) (error : OpenErr)
+    → get m index_name ≡ Some (index_text base heads) → given ≡ Some other → other ≢ base → TellsBases base other error → IsToldBase given m error
+told_base given m base other heads opening.Fault holds gives differs told = absurd told
+told_base given m base other heads opening.Missing holds gives differs told = absurd told
+told_base given m base other heads (opening.Damaged name) holds gives differs told = absurd told
+told_base given m base other heads (opening.BaseDiffers first second) holds gives differs told =
+    (base, heads, holds, (told.0, gives ∙ ap Some (sym told.1), λ e. differs (sym told.1 ∙ e)))
+told_base given m base other heads opening.Memory holds gives differs told = tt
+
+-- what holds of the error of a result that is one
+pub at_error : {A E : Type 0} (P : E → Type 0) (result : Result A E) (error : E) → result ≡ Err error → P error → IfErr result P
+at_error P result error is holds = subst (λ (r : Result _ _). IfErr r P) (sym is) holds

@@ -44,6 +44,15 @@ IsAllowedBase given base = IfSome given (λ other. other ≡ base)
 abbrev pub IsOtherBase : Option (List ℕ) → List ℕ → List ℕ → List ℕ → Type 0
 IsOtherBase given base stored other = (stored ≡ base) × (given ≡ Some other) × (other ≢ base)
 
+-- Whatever the area, a base address is told as the stored one where it is that of the index held, and another one is given.
+abbrev pub IsToldBase : Option (List ℕ) → Area → OpenErr → Type 0
+IsToldBase given m Fault = ⊤
+IsToldBase given m Missing = ⊤
+IsToldBase given m (Damaged name) = ⊤
+IsToldBase given m (BaseDiffers stored other) =
+    (base : List ℕ) × (heads : List PageHead) × (get m index_name ≡ Some (index_text base heads)) × IsOtherBase given base stored other
+IsToldBase given m Memory = ⊤
+
 -- The plan was made as the result of an opening tells. Where another base address is given, the index alone is got.
 abbrev pub RunsOpening : {A : Type 0} → List Act → Seen → Seen → Result A OpenErr → Type 0
 RunsOpening plan old new (Ok a) = Makes plan old new
@@ -102,7 +111,8 @@ pub record IsOpenable (m : Area) (base : List ℕ) (heads : List PageHead) (page
   pub mends : IsMending base heads (map head_of pages) acts
 
 -- the pages of an index are opened as they are held
-pub record Opens (given : Option (List ℕ)) (base : List ℕ) (heads : List PageHead) (pages : List (List Row)) (acts : List Act) (old new : Seen) (result : Result Known OpenErr) : Type 0 where
+pub record Opens (given : Option (List ℕ)) (base : List ℕ) (heads : List PageHead) (pages : List (List Row)) (acts : List Act)
+    (old new : Seen) (result : Result Known OpenErr) : Type 0 where
   pub answers : Answers given base (rows_on pages) (map head_of pages) result
   pub runs : RunsOpening (opening_gets (length heads) ++ acts) old new result
 

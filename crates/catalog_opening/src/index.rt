@@ -58,7 +58,8 @@ pub(crate) fn get_index<B: Blobs>(alloc: Global, area: &mut B) -> Result<Option<
     ensures runs { RunsReading (Get index_name ∷ []) (B.seen area.old) (B.seen area.new) result }
     ensures ok { (m : Area) → (B.seen area.old).held ≡ Some m → IfOk result (λ index. IsReadAsIndex (get m index_name) index) }
     ensures few { IfOk result (λ found. IfSome found (λ index. length index.heads ≤ 200_000)) }
-    ensures damaged { (m : Area) → (B.seen area.old).held ≡ Some m → IfDamagedRead result (λ name. (name ≡ index_name) × IsNoIndex (get m index_name)) }
+    ensures damaged { (m : Area) → (B.seen area.old).held ≡ Some m
+        → IfDamagedRead result (λ name. (name ≡ index_name) × IsNoIndex (get m index_name)) }
 {
     let Some(bytes) = get_one(alloc, area, INDEX_NAME)? else {
         return Ok(None);

@@ -1,5 +1,5 @@
 // The opening of a catalog.
-ghost use Rattle.std.specs.Prelude.{◌≡◌, ◌≢◌, ◌≤◌, ◌+◌, ◌++◌, ◌∷◌, ◌↔◌, [], ℕ, List, Some, None, IsTrue, IfOk, IsErrOf, OnOk, length, map, option_map};
+ghost use Rattle.std.specs.Prelude.{◌≡◌, ◌≢◌, ◌≤◌, ◌+◌, ◌++◌, ◌∷◌, ◌↔◌, [], ℕ, List, Some, None, IsTrue, IfErr, IfOk, IsErrOf, OnOk, length, map, option_map};
 ghost use Rattle.std.specs.FinMap.{get};
 ghost use Rattle.blob_store.specs.Area.{Area};
 ghost use Rattle.blob_store.specs.Events.{Act};
@@ -12,7 +12,7 @@ ghost use Rattle.catalog_doc.specs.Spelled.{SpellsCatalog};
 ghost use Rattle.catalog_doc.specs.declared.head.PageHead.{PageHead};
 ghost use Rattle.catalog_doc.specs.declared.row.Row.{Row};
 ghost use Rattle.catalog_opening.specs.Errors.{IfDamagedOpening, IfDamagedRead};
-ghost use Rattle.catalog_opening.specs.Openings.{Answers, ChecksBase, IsDamagedOf, IsKnownAs, IsMending, IsOpenable, IsOpeningPlan, IsSettledStoreOf, IsStoreOf, KeepsSpelling, Mends, Opens, RunsOpening, TellsBases, mending};
+ghost use Rattle.catalog_opening.specs.Openings.{Answers, ChecksBase, IsDamagedOf, IsKnownAs, IsMending, IsOpenable, IsOpeningPlan, IsSettledStoreOf, IsStoreOf, IsToldBase, KeepsSpelling, Mends, Opens, RunsOpening, TellsBases, mending};
 ghost use Rattle.catalog_opening.specs.Pages.{IsDamagedIn, IsHeldAs, rows_on};
 ghost use Rattle.catalog_opening.specs.Plans.{RunsReading, page_gets};
 
@@ -81,7 +81,8 @@ fn open_pages<B: Blobs>(alloc: Global, area: &mut B, index: Index) -> Result<Kno
     ensures known { (m : Area) (pages : List (List Row)) → (B.seen area.old).held ≡ Some m → IsHeldAs m index.base index.heads pages
         → IfOk result (IsKnownAs index.base (rows_on pages) (map head_of pages)) }
     ensures runs { (m : Area) (pages : List (List Row)) (acts : List Act) → (B.seen area.old).held ≡ Some m → IsHeldAs m index.base index.heads pages
-        → IsMending index.base index.heads (map head_of pages) acts → RunsReading (page_gets 0 (length index.heads + 1) ++ acts) (B.seen area.old) (B.seen area.new) result }
+        → IsMending index.base index.heads (map head_of pages) acts
+        → RunsReading (page_gets 0 (length index.heads + 1) ++ acts) (B.seen area.old) (B.seen area.new) result }
     ensures mends { Mends (B.seen area.old) (B.seen area.new) (IsErrOf result ReadErr.Fault) }
     ensures damaged { (m : Area) → (B.seen area.old).held ≡ Some m → IfDamagedRead result (IsDamagedIn m index.base index.heads) }
 {
@@ -98,10 +99,12 @@ fn open_pages<B: Blobs>(alloc: Global, area: &mut B, index: Index) -> Result<Kno
 // An opening, over each area that holds an index and pages that fit it.
 fn open<B: Blobs>(alloc: Global, area: &mut B, given: Option<&str>) -> Result<Known, OpenErr>
     ensures opens { (m : Area) (base : List ℕ) (heads : List PageHead) (pages : List (List Row)) (acts : List Act) → (B.seen area.old).held ≡ Some m
-        → IsOpenable m base heads pages acts → Opens (option_map (λ t. t.now) given.entry) base heads pages acts (B.seen area.old) (B.seen area.new) result }
+        → IsOpenable m base heads pages acts → Opens (option_map (λ t. t.now) given.entry) base heads pages acts
+        (B.seen area.old) (B.seen area.new) result }
     ensures mends { Mends (B.seen area.old) (B.seen area.new) (IsErrOf result OpenErr.Fault) }
     ensures missing { IsErrOf result OpenErr.Missing → (m : Area) → (B.seen area.old).held ≡ Some m → get m index_name ≡ None }
     ensures damaged { (m : Area) → (B.seen area.old).held ≡ Some m → IfDamagedOpening result (IsDamagedOf m) }
+    ensures other_base { (m : Area) → (B.seen area.old).held ≡ Some m → IfErr result (IsToldBase (option_map (λ t. t.now) given.entry) m) }
 {
     let Some(index) = get_index(alloc, area)? else {
         return Err(OpenErr::Missing);
@@ -135,13 +138,15 @@ pub fn read_catalog<B: Blobs>(
         → KeepsSpelling (B.seen area.old) (B.seen area.new) base cs }
 
     // The store is called as planned, up to the first call that isn't done.
-    ensures runs { (m : Area) (base : List ℕ) (cs : Catalog) (plan : List Act) → IsCatalog cs → (B.seen area.old).held ≡ Some m → SpellsCatalog m base cs
+    ensures runs { (m : Area) (base : List ℕ) (cs : Catalog) (plan : List Act) → IsCatalog cs
+        → (B.seen area.old).held ≡ Some m → SpellsCatalog m base cs
         → IsOpeningPlan m base cs plan → RunsOpening plan (B.seen area.old) (B.seen area.new) result }
 
     // Of every area: the count of faults rises exactly at a fault, and nothing but the index is put.
     ensures mends { Mends (B.seen area.old) (B.seen area.new) (IsErrOf result OpenErr.Fault) }
     ensures missing { IsErrOf result OpenErr.Missing → (m : Area) → (B.seen area.old).held ≡ Some m → get m index_name ≡ None }
     ensures damaged { (m : Area) → (B.seen area.old).held ≡ Some m → IfDamagedOpening result (IsDamagedOf m) }
+    ensures other_base { (m : Area) → (B.seen area.old).held ≡ Some m → IfErr result (IsToldBase (option_map (λ t. t.now) given.entry) m) }
 {
     open(alloc, area, given)
 }

@@ -77,10 +77,12 @@ fn get_fitting<B: Blobs>(
     fit: Fit,
 ) -> Result<Page, ReadErr>
     ensures runs { RunsReading (page_gets page 1) (B.seen area.old) (B.seen area.new) result }
-    ensures exact { (m : Area) (rows : List Row) → (B.seen area.old).held ≡ Some m → HoldsPage m base.now page rows → IfOk result (λ p. p ≡ page_of rows) }
+    ensures exact { (m : Area) (rows : List Row) → (B.seen area.old).held ≡ Some m → HoldsPage m base.now page rows
+        → IfOk result (λ p. p ≡ page_of rows) }
     ensures own { IfOk result (λ p. p ≡ page_of p.rows) }
     ensures damaged { (m : Area) → (B.seen area.old).held ≡ Some m
-        → IfDamagedRead result (λ name. (name ≡ page_name page) × ((rows : List Row) → HoldsPage m base.now page rows → Fits fit head.now rows → ⊥)) }
+        → IfDamagedRead result (λ name. (name ≡ page_name page)
+        × ((rows : List Row) → HoldsPage m base.now page rows → Fits fit head.now rows → ⊥)) }
 {
     let Some(rows) = get_page(alloc, area, base, page)? else {
         return Err(damaged_page(alloc, page));
@@ -104,7 +106,8 @@ fn get_next<B: Blobs>(
     ensures exact { (m : Area) (rows : List Row) → (B.seen area.old).held ≡ Some m → HoldsPage m base.now page rows
         → IfOk result (λ p. p ≡ Some (page_of rows)) }
     ensures damaged { (m : Area) → (B.seen area.old).held ≡ Some m
-        → IfDamagedRead result (λ name. (name ≡ page_name page) × IsSome (get m (page_name page)) × ((rows : List Row) → HoldsPage m base.now page rows → IsTrue awaited → IsOneCommit rows → ⊥)) }
+        → IfDamagedRead result (λ name. (name ≡ page_name page) × IsSome (get m (page_name page))
+        × ((rows : List Row) → HoldsPage m base.now page rows → IsTrue awaited → IsOneCommit rows → ⊥)) }
 {
     let Some(rows) = get_page(alloc, area, base, page)? else {
         return Ok(None);
@@ -124,7 +127,8 @@ pub(crate) fn read_front<B: Blobs>(
 ) -> Result<Vec<Row>, ReadErr>
     requires { length heads.now < 2 ^ 32 }
     ensures runs { RunsReading (page_gets 0 (length heads.now)) (B.seen area.old) (B.seen area.new) result }
-    ensures exact { (m : Area) (pages : List (List Row)) → (B.seen area.old).held ≡ Some m → HoldsPages m base.now 0 pages → length pages ≡ length heads.now
+    ensures exact { (m : Area) (pages : List (List Row)) → (B.seen area.old).held ≡ Some m → HoldsPages m base.now 0 pages
+        → length pages ≡ length heads.now
         → IfOk result (λ rows. rows.items ≡ rows_on pages) }
     ensures damaged { (m : Area) → (B.seen area.old).held ≡ Some m
         → IfDamagedRead result (λ name. (k : ℕ) × (name ≡ page_name k) × IsFrontDamaged m base.now heads.now k) }
@@ -182,7 +186,8 @@ pub(crate) fn read_first<B: Blobs>(alloc: Global, area: &mut B, base: &str) -> R
     ensures settled { IfOk result (λ end. IsTrue end.settled ↔ (heads_on (end_pages end) ≡ [])) }
     ensures first { IfOk result (λ end. end.last ≡ None) }
     ensures damaged { (m : Area) → (B.seen area.old).held ≡ Some m
-        → IfDamagedRead result (λ name. (name ≡ page_name 0) × IsSome (get m (page_name 0)) × ((rows : List Row) → HoldsPage m base.now 0 rows → IsOneCommit rows → ⊥)) }
+        → IfDamagedRead result (λ name. (name ≡ page_name 0) × IsSome (get m (page_name 0))
+        × ((rows : List Row) → HoldsPage m base.now 0 rows → IsOneCommit rows → ⊥)) }
 {
     let next = get_next(alloc, area, base, 0, true)?;
     let settled = next.is_none();

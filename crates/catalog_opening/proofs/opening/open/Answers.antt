@@ -1,4 +1,4 @@
-use Rattle.std.proofs.Common.{◌≡◌, ◌∙◌, ◌+◌, ◌++◌, ℕ, List, [], ◌∷◌, Err, Ok, ap, inl, inr, length, map, option_map, subst, sym}
+use Rattle.std.proofs.Common.{◌≡◌, ◌∙◌, ◌+◌, ◌++◌, ℕ, List, [], ◌∷◌, Err, Ok, Some, ap, inl, inr, length, map, option_map, subst, sym}
 use Rattle.std.specs.Prelude.{IsErrOf}
 use Rattle.std.proofs.lemmas.Result.{err_from_is_err_and}
 use Rattle.std.specs.FinMap.{get}
@@ -9,7 +9,8 @@ use Rattle.catalog_doc.specs.Documents.{head_of, index_text}
 use Rattle.catalog_doc.specs.Names.{index_name}
 use Rattle.catalog_doc.specs.declared.head.PageHead.{PageHead}
 use Rattle.catalog_doc.proofs.OnePage.{none_some}
-use Rattle.catalog_opening.specs.Openings.{IsAllowedBase, IsDamagedOf, IsKnownAs}
+use Rattle.catalog_opening.specs.Errors.{open_err_of}
+use Rattle.catalog_opening.specs.Openings.{IsAllowedBase, IsDamagedOf, IsKnownAs, IsToldBase}
 use Rattle.catalog_opening.specs.Pages.{IsDamagedIn, rows_on}
 use Rattle.catalog_opening.specs.Plans.{HaltsAt, page_gets}
 use Rattle.catalog_opening.specs.Reads.{IsNoIndex}
@@ -19,7 +20,7 @@ use Rattle.catalog_opening.specs.declared.opening.Known.{Known}
 use Rattle.catalog_opening.proofs.Fitting.{not_damaged}
 use Rattle.catalog_opening.proofs.Halting.{gets_keep, halts_behind, halts_early}
 use Rattle.catalog_opening.proofs.Mended.{mends_as, mends_behind, mends_gets, mends_reading}
-use Rattle.catalog_opening.proofs.OpenSteps.{damage_none, held_as, mends_open, mends_same, never_missing, no_index_is, opening_damaged, opens_halted, opens_refused, read_index_is, refused_quietly, refused_whole, told_is}
+use Rattle.catalog_opening.proofs.OpenSteps.{at_error, damage_none, held_as, mends_open, mends_same, never_missing, no_index_is, none_told, opening_damaged, opens_halted, opens_refused, read_index_is, refused_quietly, refused_whole, told_base, told_is}
 use Rattle.catalog_opening.proofs.opening.open.Goals as goal
 
 pub returns-in_err-index-clause-opens : goal.returns-in_err-index-clause-opens
@@ -136,3 +137,24 @@ pub returns-clause-mends : goal.returns-clause-mends
 returns-clause-mends g c =
     mends_behind (Get index_name ∷ []) (g.B.Blobs.seen c.args.area.now) (g.B.Blobs.seen c.get_index.new.area) (g.B.Blobs.seen c.open_pages.new.area) (IsErrOf {T = Known} (Ok c.in_ok-known.known) opening.Fault) tt c.in_ok-index.ensures.runs
     (mends_as (g.B.Blobs.seen c.get_index.new.area) (g.B.Blobs.seen c.open_pages.new.area) (IsErrOf {T = Known} (Ok c.in_ok-known.known) Fault) (IsErrOf {T = Known} (Ok c.in_ok-known.known) opening.Fault) (λ is. let no : ⊥ = cc in absurd no) (λ is. let no : ⊥ = cc in absurd no) c.in_ok-known.ensures.mends)
+
+pub returns-in_err-index-clause-other_base : goal.returns-in_err-index-clause-other_base
+returns-in_err-index-clause-other_base g c = λ m is.
+    let p = err_from_is_err_and c.from_residual.result c.from_residual.ensures.1 in
+    at_error (IsToldBase (option_map (λ t. t.now) c.args.given) m) c.from_residual.result (open_err_of c.in_err-index.field-0.0) (p.1 ∙ ap Err p.2)
+    (none_told (option_map (λ t. t.now) c.args.given) m c.in_err-index.field-0.0)
+
+pub returns-in_err-check_base-clause-other_base : goal.returns-in_err-check_base-clause-other_base
+returns-in_err-check_base-clause-other_base g c = λ m is.
+    let p = err_from_is_err_and c.from_residual-in_err-check_base.result c.from_residual-in_err-check_base.ensures.1 in
+    let read = read_index_is (get m index_name) c.in_ok-index.field-0 c.in-Some.index c.in-Some.is (c.in_ok-index.ensures.ok m is) in
+    at_error (IsToldBase (option_map (λ t. t.now) c.args.given) m) c.from_residual-in_err-check_base.result c.in_err-check_base.field-0.0 (p.1 ∙ ap Err p.2)
+    (told_base (option_map (λ t. t.now) c.args.given) m c.as_str.result.now c.in_err-check_base.ensures.0 c.in-Some.index.heads c.in_err-check_base.field-0.0
+    (read.text ∙ ap (λ (b : List ℕ). Some (index_text b c.in-Some.index.heads)) (sym c.as_str.ensures))
+    c.in_err-check_base.ensures.1 c.in_err-check_base.ensures.2 c.in_err-check_base.ensures.3)
+
+pub returns-in_err-known-clause-other_base : goal.returns-in_err-known-clause-other_base
+returns-in_err-known-clause-other_base g c = λ m is.
+    let p = err_from_is_err_and c.from_residual-in_err-known.result c.from_residual-in_err-known.ensures.1 in
+    at_error (IsToldBase (option_map (λ t. t.now) c.args.given) m) c.from_residual-in_err-known.result (open_err_of c.in_err-known.field-0.0) (p.1 ∙ ap Err p.2)
+    (none_told (option_map (λ t. t.now) c.args.given) m c.in_err-known.field-0.0)
