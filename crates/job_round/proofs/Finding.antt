@@ -5,7 +5,7 @@ use Rattle.blob_store.specs.Area.{Area}
 use Rattle.blob_store.specs.Events.{Act}
 use Rattle.blob_store.specs.Plans.{Makes}
 use Rattle.blob_store.specs.Seen.{Seen}
-use Rattle.job_round.specs.Stops.{JobHaltsAt, IsDamage, IsOfHive}
+use Rattle.job_round.specs.Stops.{IfHiveDamaged, JobHaltsAt, IsDamage, IsOfHive}
 use Rattle.job_round.specs.declared.stop.Stop.{Stop}
 use Rattle.job_round.specs.declared.stop.Stop.TheVariants.{CatalogFault, HiveFault, CatalogDamaged, HiveDamaged, Memory}
 use Rattle.job_round.proofs.Halting.{halts_behind}
@@ -31,3 +31,19 @@ damage_of_hive P R HiveFault more damage = absurd damage
 damage_of_hive P R (CatalogDamaged name) more damage = absurd damage
 damage_of_hive P R (HiveDamaged name) more damage = more name damage
 damage_of_hive P R Memory more damage = tt
+
+-- a stop of the store tells no damaged blob
+pub no_damage : (M : Type 0) (stop : Stop) → IsOfHive (λ name. ⊥) stop → IfHiveDamaged stop M
+no_damage M CatalogFault own = absurd own
+no_damage M HiveFault own = tt
+no_damage M (CatalogDamaged name) own = absurd own
+no_damage M (HiveDamaged name) own = absurd own
+no_damage M Memory own = tt
+
+-- whatever a stop tells, what holds anyway holds where it tells a damaged blob
+pub damage_told : (M : Type 0) (stop : Stop) → M → IfHiveDamaged stop M
+damage_told M CatalogFault holds = tt
+damage_told M HiveFault holds = tt
+damage_told M (CatalogDamaged name) holds = tt
+damage_told M (HiveDamaged name) holds = holds
+damage_told M Memory holds = tt

@@ -25,7 +25,7 @@ use Rattle.id_pass.specs.declared.error.RoundOut.TheVariants.{Done, Idle}
 use Rattle.job_round.specs.Answers.{IfDamagedText, IfDone, IfIdle, IsDamagedBlob, IsLostInCatalog, IsLostInHive, IsNoNumber, IsStopTold, in_hive, told_number}
 use Rattle.job_round.specs.Cursors.{IsCursor, IsNoCursor}
 use Rattle.job_round.specs.Rounds.{EndsAt, EndsTo, IsStopOf, RoundHalts, Rounds, RunsRound, cursor_put, round_err_of, round_plan}
-use Rattle.job_round.specs.Stops.{JobHaltsAt, IfDamaged, IsOfHive, hive_stop_of}
+use Rattle.job_round.specs.Stops.{JobHaltsAt, IfDamaged, IfHiveDamaged, IsOfHive, hive_stop_of}
 use Rattle.job_round.specs.declared.stop.Stop.{Stop}
 use Rattle.job_round.specs.declared.stop.Stop.TheVariants.{CatalogFault, HiveFault, CatalogDamaged, HiveDamaged, Memory}
 use Rattle.job_round.proofs.Staying.{stopped}
@@ -48,6 +48,16 @@ ends_of hive (CatalogDamaged name) error plan a b (inr is) halts = subst (λ (e 
 ends_of hive (HiveDamaged name) error plan a b (inl is) halts = subst (λ (e : RoundErr). EndsAt plan e a b) (sym is) halts
 ends_of hive (HiveDamaged name) error plan a b (inr is) halts = subst (λ (e : RoundErr). EndsAt plan e a b) (sym is) (inr halts)
 ends_of hive Memory error plan a b is halts = subst (λ (e : RoundErr). EndsAt plan e a b) (sym is) halts
+
+-- what holds where a stop tells a damaged blob of the hive, which only a hive's stop does, holds where that is told
+pub damaged_told : (hive : HiveName) (stop : Stop) (error : RoundErr) (P : List ℕ → Type 0) (M : Type 0) → IsStopTold hive stop error → IsOfHive P stop
+    → IfHiveDamaged stop M → IfDamagedText error (λ text. M)
+damaged_told hive CatalogFault error P M is own got = absurd own
+damaged_told hive HiveFault error P M is own got = subst (λ (e : RoundErr). IfDamagedText e (λ text. M)) (sym is) tt
+damaged_told hive (CatalogDamaged name) error P M is own got = absurd own
+damaged_told hive (HiveDamaged name) error P M (inl is) own got = subst (λ (e : RoundErr). IfDamagedText e (λ text. M)) (sym is) got
+damaged_told hive (HiveDamaged name) error P M (inr is) own got = subst (λ (e : RoundErr). IfDamagedText e (λ text. M)) (sym is) tt
+damaged_told hive Memory error P M is own got = subst (λ (e : RoundErr). IfDamagedText e (λ text. M)) (sym is) tt
 
 why_of : (hive : HiveName) (stop : Stop) (error : RoundErr) → IsStopTold hive stop error → (e : BlobErr) → IsStopOf stop e → error ≡ round_err_of e
 why_of hive stop error is e same = by e (subst (λ (s : Stop). IsStopTold hive s error) same is)

@@ -78,7 +78,8 @@ IsLostInCatalog old new before after name = ((m : Area) → before.held ≡ Some
 -- a blob of the hive is damaged: the cursor is none, or is beyond the last commit; or the state of an id is none that it may have
 abbrev pub IsLostInHive : {B : Type 0} → Opened B → Seen → Option Area → List ℕ → Type 0
 IsLostInHive old before held name = IfSome held (λ m. ((name ≡ cursor_name) × IsDamagedCursor (IsOpenFor old before) (get m cursor_name))
-    ⊎ ((key : List ℕ) × (target : ℕ) × ((cs : Catalog) → IsOpenFor old before cs → target ≡ length cs) × (name ≡ state_name key) × IsNoState key target (get m name)))
+    ⊎ ((key : List ℕ) × (target : ℕ) × ((cs : Catalog) → IsOpenFor old before cs → target ≡ length cs) × (name ≡ state_name key)
+    × IsNoState key target (get m name)))
 
 -- why a round tells a blob as damaged, by the text that it tells
 abbrev pub IsDamagedBlob : {B : Type 0} → (old new : Opened B) → (before after : Seen) → Option Area → List ℕ → Type 0

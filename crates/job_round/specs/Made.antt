@@ -22,7 +22,8 @@ IsBody Q body bytes = (cs : Catalog) → Q cs → (own : List ℕ) → bytes_of 
 -- a call as it is made
 abbrev pub IsMadeCall : (Catalog → Type 0) → Call → StoreCall → Type 0
 IsMadeCall Q (Put name (Made bytes)) made = made ≡ store.Put name bytes
-IsMadeCall Q (Put name (FromPublish number place nuspec)) made = (bytes : List ℕ) × (made ≡ store.Put name bytes) × IsBody Q (FromPublish number place nuspec) bytes
+IsMadeCall Q (Put name (FromPublish number place nuspec)) made = (bytes : List ℕ) × (made ≡ store.Put name bytes)
+    × IsBody Q (FromPublish number place nuspec) bytes
 IsMadeCall Q (Remove name) made = made ≡ store.Remove name
 
 -- each of the calls, in order

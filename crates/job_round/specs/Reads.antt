@@ -101,7 +101,8 @@ module _ (f : Fold) (Q : Catalog → Type 0) (c target : ℕ) (rows : List Row) 
   -- were planned.
   abbrev pub IsToRead : List ℕ → Option Area → List Act → Type 0
   IsToRead key held reads = (reads ≡ [])
-      ⊎ ((p : Pass) × (p.key ≡ key) × ((IfSome held (λ m. IsStoredState p.key target (get m (state_name p.key)) p.stored) × (reads ≡ leaf_reads c rows p))
+      ⊎ ((p : Pass) × (p.key ≡ key) × ((IfSome held (λ m. IsStoredState p.key target (get m (state_name p.key)) p.stored)
+      × (reads ≡ leaf_reads c rows p))
       ⊎ (TakesUp f Q c target held p × (reads ≡ pass_reads c rows p))))
 
   -- what the first of these ids was to read, if there is one
@@ -146,7 +147,8 @@ module _ (f : Fold) (Q : Catalog → Type 0) (rows : List Row) where
 
   -- one that stopped read nothing before its passes, and then some of what they read
   abbrev pub SomeRead : Option Area → (List Act → Type 0) → Type 0
-  SomeRead held Halts = Halts [] ⊎ ((c target stamp : ℕ) × (keys : List (List ℕ)) × IsTask Q held c target stamp keys × (keys ≡ keys_of (rows_above c rows))
+  SomeRead held Halts = Halts [] ⊎ ((c target stamp : ℕ) × (keys : List (List ℕ)) × IsTask Q held c target stamp keys
+      × (keys ≡ keys_of (rows_above c rows))
       × ReadsSome f Q c target rows keys held Halts)
 
   -- What a round read, by its answer.

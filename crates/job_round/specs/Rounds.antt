@@ -103,12 +103,14 @@ RunsLast last old new (Ok a) = Makes (last ∷ []) old new
 RunsLast last old new (Err stop) = JobHaltsAt [] stop old new ⊎ ((error : BlobErr) × (stop ≡ hive_stop_of error) × StopsAt (last ∷ []) error old new)
 
 -- What taking up ids made: their passes and the cursor's put; up to where it stopped.
-abbrev pub RunsTaking : {A : Type 0} → Fold → (Catalog → Type 0) → (c target stamp : ℕ) → List (List ℕ) → Seen → Seen → Result A Stop → Type 0
+abbrev pub RunsTaking : {A : Type 0} → Fold → (Catalog → Type 0) → (c target stamp : ℕ) → List (List ℕ) → Seen → Seen
+    → Result A Stop → Type 0
 RunsTaking f Q c target stamp keys old new (Ok a) = (passes : List Pass) × (keys_in passes ≡ keys) × AreWholePasses f Q c target old.held passes
     × Makes (passes_plan passes ++ cursor_put target stamp ∷ []) old new
 RunsTaking f Q c target stamp keys old new (Err stop) = JobHaltsAt [] stop old new ⊎ (PassesHalt f Q c target keys stop old new
     ⊎ ((passes : List Pass) × (keys_in passes ≡ keys) × AreWholePasses f Q c target old.held passes
-    × (JobHaltsAt (passes_plan passes) stop old new ⊎ ((error : BlobErr) × (stop ≡ hive_stop_of error) × StopsAt (passes_plan passes ++ cursor_put target stamp ∷ []) error old new))))
+    × (JobHaltsAt (passes_plan passes) stop old new ⊎ ((error : BlobErr) × (stop ≡ hive_stop_of error)
+    × StopsAt (passes_plan passes ++ cursor_put target stamp ∷ []) error old new))))
 
 -- why there is no answer where no row stands behind the cursor: the catalog gave none, or its last commit isn't the cursor's
 abbrev pub IsEndStop : {B : Type 0} → Opened B → Seen → ℕ → Stop → Type 0

@@ -30,6 +30,14 @@ IfDamaged in_catalog in_hive (CatalogDamaged name) = in_catalog name
 IfDamaged in_catalog in_hive (HiveDamaged name) = in_hive name
 IfDamaged in_catalog in_hive Memory = ⊤
 
+-- what holds where it is a blob of the hive
+abbrev pub IfHiveDamaged : Stop → Type 0 → Type 0
+IfHiveDamaged CatalogFault P = ⊤
+IfHiveDamaged HiveFault P = ⊤
+IfHiveDamaged (CatalogDamaged name) P = ⊤
+IfHiveDamaged (HiveDamaged name) P = P
+IfHiveDamaged Memory P = ⊤
+
 -- a stop that only the hive's store, or want of memory, brings about
 abbrev pub IsOfHive : (List ℕ → Type 0) → Stop → Type 0
 IsOfHive in_hive CatalogFault = ⊥

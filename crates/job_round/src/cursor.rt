@@ -2,10 +2,11 @@
 ghost use Rattle.std.specs.Prelude.{◌≡◌, ◌∷◌, [], IfErr, IfOk, IfSome};
 ghost use Rattle.std.specs.FinMap as map;
 ghost use Rattle.blob_store.specs.Events.{Get};
+ghost use Rattle.blob_store.specs.Plans.{Makes};
 ghost use Rattle.cursor_doc.specs.Cursor.{cursor_name};
 ghost use Rattle.job_round.specs.Cursors.{IsCursor, IsNoCursor, IsReadAsCursor};
 ghost use Rattle.job_round.specs.Rounds.{RunsLast, cursor_put};
-ghost use Rattle.job_round.specs.Stops.{IsDamage, IsOfHive, RunsTo};
+ghost use Rattle.job_round.specs.Stops.{IfHiveDamaged, IsDamage, IsOfHive, RunsTo};
 
 use crate::calls::{get, put};
 use crate::stop::Stop;
@@ -38,6 +39,7 @@ pub(crate) fn damaged_cursor(alloc: Global) -> Stop
 /// The number of the last commit that the hive has taken up.
 pub(crate) fn cursor_in<B: Blobs>(alloc: Global, area: &mut B) -> Result<u32, Stop>
     ensures runs { RunsTo (Get cursor_name ∷ []) (B.seen area.old) (B.seen area.new) result }
+    ensures got { IfErr result (λ stop. IfHiveDamaged stop (Makes (Get cursor_name ∷ []) (B.seen area.old) (B.seen area.new))) }
     ensures same { (B.seen area.new).held ≡ (B.seen area.old).held }
     ensures number { IfOk result (λ n. IfSome (B.seen area.old).held (λ m. IsCursor (map.get m cursor_name) n)) }
     ensures cause { IfErr result (IsOfHive (λ name. (name ≡ cursor_name) × IfSome (B.seen area.old).held (λ m. IsNoCursor (map.get m cursor_name)))) }

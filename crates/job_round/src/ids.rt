@@ -79,7 +79,8 @@ impl Ids {
 
     // Puts a row to those of its id.
     fn take(&mut self, alloc: Global, row: Row) -> Result<(), NoMemory>
-        ensures { (rows : List Row) → HasIds rows (keys_of rows) self.old → OnOk result (HasIds (rows ++ row ∷ []) (keys_of (rows ++ row ∷ [])) self.new) }
+        ensures { (rows : List Row) → HasIds rows (keys_of rows) self.old
+            → OnOk result (HasIds (rows ++ row ∷ []) (keys_of (rows ++ row ∷ [])) self.new) }
     {
         let at = self.find_or_add(alloc, &row.id.key)?;
         self.list[at].rows.push(row)

@@ -30,7 +30,8 @@ fn gone_item(alloc: Global, row: &Row) -> Result<Item, NoMemory>
 // The item of a row: a delete's is told by the row, another is read from its leaf.
 fn item_of<B: Blobs>(alloc: Global, catalog: &mut Catalog<B>, row: &Row) -> Result<Item, Stop>
     ensures stays { StaysOpen catalog.old catalog.new (B.seen catalog.old.area) (B.seen catalog.new.area) (IsErrOf result Stop.CatalogFault) }
-    ensures item { (cs : List Stored) (x : CatalogItem) → IsOpenFor catalog.old (B.seen catalog.old.area) cs → Contains (all_placed cs) x → row.now ≡ placed_row x
+    ensures item { (cs : List Stored) (x : CatalogItem) → IsOpenFor catalog.old (B.seen catalog.old.area) cs → Contains (all_placed cs) x
+        → row.now ≡ placed_row x
         → IfOk result (λ it. it ≡ x.what) }
     ensures other { IfErr result IsElse }
     ensures reads { catalog.old.settled ≡ true → Contains catalog.old.kept.rows row.now
@@ -56,7 +57,8 @@ pub(crate) fn items_behind<B: Blobs>(
     at: u32,
 ) -> Result<Many<Placed>, Stop>
     ensures stays { StaysOpen catalog.old catalog.new (B.seen catalog.old.area) (B.seen catalog.new.area) (IsErrOf result Stop.CatalogFault) }
-    ensures items { (cs : List Stored) (xs : List CatalogItem) → IsOpenFor catalog.old (B.seen catalog.old.area) cs → AreOf cs xs → rows.now ≡ map placed_row xs
+    ensures items { (cs : List Stored) (xs : List CatalogItem) → IsOpenFor catalog.old (B.seen catalog.old.area) cs
+        → AreOf cs xs → rows.now ≡ map placed_row xs
         → IfOk result (λ items. all_as_placed items ≡ filter (is_behind at) xs) }
     ensures other { IfErr result IsElse }
     ensures reads { catalog.old.settled ≡ true → AreKept catalog.old.kept.rows rows.now

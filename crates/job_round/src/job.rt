@@ -3,6 +3,7 @@ ghost use Rattle.std.specs.Prelude.{◌≡◌, ◌<◌, ◌∷◌, [], ℕ, List
 ghost use Rattle.std.specs.FinMap.{get};
 ghost use Rattle.feed_base.specs.Counts.{CountsFault};
 ghost use Rattle.blob_store.specs.Events.{Get};
+ghost use Rattle.blob_store.specs.Plans.{Makes};
 ghost use Rattle.pkg_meta.specs.declared.commit.Stored.{Stored};
 ghost use Rattle.catalog_core.specs.Framing.{StaysOpen};
 ghost use Rattle.catalog_core.specs.Opened.{IsOpenFor};
@@ -61,6 +62,8 @@ fn round_err(alloc: Global, hive: HiveName, stop: Stop) -> RoundErr
 /// The number of the last commit that the hive in this area has taken up, 0 where it has no cursor.
 pub fn cursor_of<B: Blobs>(alloc: Global, hive: HiveName, area: &mut B) -> Result<u32, RoundErr>
     ensures runs { EndsTo (Get cursor_name ∷ []) (B.seen area.old) (B.seen area.new) result }
+    // Told as damaged, it was got.
+    ensures got { IfErr result (λ e. IfDamagedText e (λ text. Makes (Get cursor_name ∷ []) (B.seen area.old) (B.seen area.new))) }
     ensures number { IfOk result (λ n. IfSome (B.seen area.old).held (λ m. IsCursor (get m cursor_name) n)) }
     ensures same { (B.seen area.new).held ≡ (B.seen area.old).held }
     ensures counts { CountsFault (B.seen area.old).faults (B.seen area.new).faults (IsErrOf result RoundErr.HiveFault) }
@@ -84,7 +87,8 @@ pub fn run_round<H: Hive, B: Blobs>(
     area: &mut B,
 ) -> Result<RoundOut, RoundErr>
     // The calls on the hive's store: the cursor is got, each id's pass is made, and the cursor is put; up to where it stopped.
-    ensures runs { Rounds (fold_of H.keeps H.makes catalog.old.base) (IsOpenFor catalog.old (B.seen catalog.old.area)) (B.seen area.old) (B.seen area.new) result }
+    ensures runs { Rounds (fold_of H.keeps H.makes catalog.old.base) (IsOpenFor catalog.old (B.seen catalog.old.area)) (B.seen area.old)
+        (B.seen area.new) result }
 
     // The calls on the catalog's store, where it is settled: the leaf of each details item behind the id's state, pass by pass, and then what
     // publishes brought, for each call that puts it; each once, up to where it stopped.
@@ -100,7 +104,8 @@ pub fn run_round<H: Hive, B: Blobs>(
     // The catalog stays open, also at a crash; it may be settled first.
     ensures stays { StaysOpen catalog.old catalog.new (B.seen catalog.old.area) (B.seen catalog.new.area) (IsErrOf result RoundErr.CatalogFault) }
     ensures counts { CountsFault (B.seen area.old).faults (B.seen area.new).faults (IsErrOf result RoundErr.HiveFault) }
-    ensures damaged { IfErr result (λ e. IfDamagedText e (IsDamagedBlob catalog.old catalog.new (B.seen catalog.old.area) (B.seen catalog.new.area) (B.seen area.new).held)) }
+    ensures damaged { IfErr result (λ e. IfDamagedText e (IsDamagedBlob catalog.old catalog.new
+        (B.seen catalog.old.area) (B.seen catalog.new.area) (B.seen area.new).held)) }
 {
     match round::<H, B>(alloc, catalog, area) {
         Ok(out) => Ok(out),

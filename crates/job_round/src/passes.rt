@@ -26,7 +26,8 @@ fn pass<H: Hive, B: Blobs>(
     target: u32,
 ) -> Result<(), Stop>
     ensures stays { StaysOpen catalog.old catalog.new (B.seen catalog.old.area) (B.seen catalog.new.area) (IsErrOf result Stop.CatalogFault) }
-    ensures runs { (c : ℕ) → RunsPass (fold_of H.keeps H.makes catalog.old.base) (IsTold c id.now (IsOpenFor catalog.old (B.seen catalog.old.area))) c target id.now.key (B.seen area.old) (B.seen area.new) result }
+    ensures runs { (c : ℕ) → RunsPass (fold_of H.keeps H.makes catalog.old.base)
+        (IsTold c id.now (IsOpenFor catalog.old (B.seen catalog.old.area))) c target id.now.key (B.seen area.old) (B.seen area.new) result }
     ensures reads { (c : ℕ) → catalog.old.settled ≡ true → id.now.rows ≡ own_rows c catalog.old.kept.rows id.now.key
         → ReadsPass (fold_of H.keeps H.makes catalog.old.base) (IsTold c id.now (IsOpenFor catalog.old (B.seen catalog.old.area))) c target
         catalog.old.kept.rows id.now.key (B.seen area.old) (B.seen area.new) (B.seen catalog.old.area) (B.seen catalog.new.area) result }
@@ -56,7 +57,8 @@ pub(crate) fn passes<H: Hive, B: Blobs>(
     target: u32,
 ) -> Result<(), Stop>
     ensures stays { StaysOpen catalog.old catalog.new (B.seen catalog.old.area) (B.seen catalog.new.area) (IsErrOf result Stop.CatalogFault) }
-    ensures runs { (c : ℕ) → RunsPasses (fold_of H.keeps H.makes catalog.old.base) (AreTold c ids.now (IsOpenFor catalog.old (B.seen catalog.old.area))) c target (map key_of_id ids.now) (B.seen area.old) (B.seen area.new) result }
+    ensures runs { (c : ℕ) → RunsPasses (fold_of H.keeps H.makes catalog.old.base)
+        (AreTold c ids.now (IsOpenFor catalog.old (B.seen catalog.old.area))) c target (map key_of_id ids.now) (B.seen area.old) (B.seen area.new) result }
     ensures reads { (c : ℕ) → catalog.old.settled ≡ true → HaveOwnRows c catalog.old.kept.rows ids.now
         → ReadsPasses (fold_of H.keeps H.makes catalog.old.base) (AreTold c ids.now (IsOpenFor catalog.old (B.seen catalog.old.area))) c target
         catalog.old.kept.rows (map key_of_id ids.now) (B.seen area.old) (B.seen area.new) (B.seen catalog.old.area) (B.seen catalog.new.area) result }

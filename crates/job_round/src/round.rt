@@ -59,7 +59,8 @@ fn take_up<H: Hive, B: Blobs>(
 ) -> Result<RoundOut, Stop>
     ensures stays { StaysOpen catalog.old catalog.new (B.seen catalog.old.area) (B.seen catalog.new.area) (IsErrOf result Stop.CatalogFault) }
     ensures done { IfOk result (λ out. out ≡ Done target.now.number) }
-    ensures runs { (c : ℕ) → RunsTaking (fold_of H.keeps H.makes catalog.old.base) (AreTold c (by_id rows) (IsOpenFor catalog.old (B.seen catalog.old.area)))
+    ensures runs { (c : ℕ) → RunsTaking (fold_of H.keeps H.makes catalog.old.base)
+        (AreTold c (by_id rows) (IsOpenFor catalog.old (B.seen catalog.old.area)))
         c target.now.number target.now.stamp (map key_of_id (by_id rows)) (B.seen area.old) (B.seen area.new) result }
     ensures reads { (c : ℕ) → catalog.old.settled ≡ true → rows ≡ rows_above c catalog.old.kept.rows
         → ReadsTaking (fold_of H.keeps H.makes catalog.old.base) (AreTold c (by_id rows) (IsOpenFor catalog.old (B.seen catalog.old.area)))
@@ -81,7 +82,8 @@ pub(crate) fn round<H: Hive, B: Blobs>(
     area: &mut B,
 ) -> Result<RoundOut, Stop>
     ensures stays { StaysOpen catalog.old catalog.new (B.seen catalog.old.area) (B.seen catalog.new.area) (IsErrOf result Stop.CatalogFault) }
-    ensures runs { RunsRound (fold_of H.keeps H.makes catalog.old.base) (IsOpenFor catalog.old (B.seen catalog.old.area)) (B.seen area.old) (B.seen area.new) result }
+    ensures runs { RunsRound (fold_of H.keeps H.makes catalog.old.base) (IsOpenFor catalog.old (B.seen catalog.old.area))
+        (B.seen area.old) (B.seen area.new) result }
     ensures reads { catalog.old.settled ≡ true → ReadsRound (fold_of H.keeps H.makes catalog.old.base) (IsOpenFor catalog.old (B.seen catalog.old.area))
         catalog.old.kept.rows (B.seen area.old) (B.seen area.new) (B.seen catalog.old.area) (B.seen catalog.new.area) result }
     ensures cause { IfErr result (IfDamaged (IsLostInCatalog catalog.old catalog.new (B.seen catalog.old.area) (B.seen catalog.new.area))
