@@ -17,7 +17,7 @@ use Rattle.catalog_doc.specs.Names.{index_name}
 use Rattle.catalog_core.specs.Opened.{IsOpenFor, Opened}
 use Rattle.catalog_core.specs.Openings.{IsRefusedOpening, StopsOpening}
 use Rattle.catalog_opening.specs.Errors.{IfDamagedIn}
-use Rattle.catalog_opening.specs.Openings.{IsAllowedBase, IsDamagedOf, IsOpeningPlan, IsStoreOf, Mends, opening_gets}
+use Rattle.catalog_opening.specs.Openings.{IsAllowedBase, IsDamagedOf, IsOpeningPlan, IsStoreOf, IsToldBase, Mends, opening_gets}
 use Rattle.catalog_opening.specs.declared.error.OpenErr.{OpenErr}
 use Rattle.catalog_opening.specs.declared.error.OpenErr.TheVariants as opening
 use Rattle.fold_core.specs.declared.hive.HiveName.{HiveName}
@@ -65,24 +65,25 @@ stops_kept e s now base cs runs has stored other is =
     kept_by s now m has.store.1
     (subst (λ (x : OpenErr). StopsOpening plan.0 x s now) is (runs m base cs plan.0 has.lawful has.store.1 has.store.2 plan.1))
 
-told_by : (e : OpenErr) (s : Seen) → (e ≡ opening.Missing → (m : Area) → s.held ≡ Some m → get m index_name ≡ None)
-    → ((m : Area) → s.held ≡ Some m → IfDamagedIn e (IsDamagedOf m)) → OpensNone (open_answer e) s
-told_by opening.Fault s missing damaged = tt
-told_by opening.Missing s missing damaged = missing refl
-told_by (opening.Damaged name) s missing damaged = damaged
-told_by (opening.BaseDiffers stored given) s missing damaged = tt
-told_by opening.Memory s missing damaged = tt
+told_by : (given : Option (List ℕ)) (e : OpenErr) (s : Seen) → (e ≡ opening.Missing → (m : Area) → s.held ≡ Some m → get m index_name ≡ None)
+    → ((m : Area) → s.held ≡ Some m → IfDamagedIn e (IsDamagedOf m)) → ((m : Area) → s.held ≡ Some m → IsToldBase given m e)
+    → OpensNone given (open_answer e) s
+told_by given opening.Fault s missing damaged base = tt
+told_by given opening.Missing s missing damaged base = missing refl
+told_by given (opening.Damaged name) s missing damaged base = damaged
+told_by given (opening.BaseDiffers stored other) s missing damaged base = base
+told_by given opening.Memory s missing damaged base = tt
 
 -- what an opening answers
 pub closed_by : (given : Option (List ℕ)) (e : OpenErr) (s now : Seen) (X : List ℕ → Catalog → Type 0)
     → (e ≡ opening.Missing → (m : Area) → s.held ≡ Some m → get m index_name ≡ None)
-    → ((m : Area) → s.held ≡ Some m → IfDamagedIn e (IsDamagedOf m))
+    → ((m : Area) → s.held ≡ Some m → IfDamagedIn e (IsDamagedOf m)) → ((m : Area) → s.held ≡ Some m → IsToldBase given m e)
     → ((b : List ℕ) (cs : Catalog) → IsCatalog cs → IsStoreOf s b cs → IsRefusedOpening given b e × X b cs)
     → ((m : Area) (b : List ℕ) (cs : Catalog) (plan : List Act) → IsCatalog cs → s.held ≡ Some m → SpellsCatalog m b cs → IsOpeningPlan m b cs plan
     → StopsOpening plan e s now)
     → NotOpened given (open_answer e) s now
-closed_by given e s now X missing damaged refused runs = record {
-  told = told_by e s missing damaged;
+closed_by given e s now X missing damaged other_base refused runs = record {
+  told = told_by given e s missing damaged other_base;
   calls = (e, refl, runs);
   why = λ base cs has. why given e base (now.held ≡ s.held) (refused base cs has.lawful has.store).0 (stops_kept e s now base cs runs has);
 }
@@ -128,7 +129,7 @@ closed_rose e s now answer is mends fault = let rose = mends.counts.risen (fault
 
 pub not_of_hive : {X : Type 0} (given : Option (List ℕ)) (answer : Answer) (s now : Seen) (hive : HiveName) → NotOpened given answer s now
     → answer ≡ Reply (line.Fault (area.Hive hive)) → X
-not_of_hive given answer s now hive closed is = absurd (subst (λ (a : Answer). OpensNone a s) is closed.told)
+not_of_hive given answer s now hive closed is = absurd (subst (λ (a : Answer). OpensNone given a s) is closed.told)
 
 -- why it came
 pub closed_explains : {B : Type 0} (m : Members B) (reach : Reach) (before after : Sight B) (given : Option (List ℕ)) (now : Seen) (answer : Answer)
@@ -140,8 +141,11 @@ closed_explains m reach before after given now (Reply (line.Refused why)) touche
 closed_explains m reach before after given now (Reply (line.Fault area.Catalog)) touches rose closed = (touches, rose refl)
 closed_explains m reach before after given now (Reply (line.Damaged area.Catalog blob)) touches rose closed = (
   touches,
-  inl (λ base cs has. closed_not given (Reply (line.Damaged area.Catalog blob)) (m.seen before.stores.catalog) now closed base cs has 6 refl
-      (λ e. omega (arith, e)) (λ e. omega (arith, e)) (λ e. omega (arith, e))),
+  inl (
+    (λ base cs has. closed_not given (Reply (line.Damaged area.Catalog blob)) (m.seen before.stores.catalog) now closed base cs has 6 refl
+        (λ e. omega (arith, e)) (λ e. omega (arith, e)) (λ e. omega (arith, e))),
+    λ area later told left. inl (closed.told area told),
+  ),
 )
 closed_explains m reach before after given now (Reply line.Memory) touches rose closed = tt
 closed_explains m reach before after given now _ touches rose closed = absurd closed.told

@@ -29,7 +29,8 @@ module _ {B : Type 0} (m : Members B) (before after : Sight B) (reach : Reach) (
       → CommitsAt changes now (m.seen before.stores.catalog) (m.seen after.stores.catalog) r → Explained (commit_reply r)
   commit_explains changes now (Ok done) rose is = tt
   commit_explains changes now (Err error.Fault) rose is = (touches, rose refl)
-  commit_explains changes now (Err (error.Damaged name)) rose is = (touches, inl (λ base cs has. is.commits base cs has))
+  commit_explains changes now (Err (error.Damaged name)) rose is =
+      (touches, inl ((λ base cs has. is.commits base cs has), λ m later told left. inr (inr (is.damaged m later told left))))
   commit_explains changes now (Err error.Memory) rose is = tt
   commit_explains changes now (Err error.Empty) rose is = tt
   commit_explains changes now (Err (error.TooMany count)) rose is = tt

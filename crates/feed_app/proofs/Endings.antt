@@ -1,5 +1,6 @@
 -- What a commit answered, and what it left.
-use Rattle.std.proofs.Common.{◌≡◌, ℕ, List, [], Option, None, Some, true, Ok, Err, Result, inl, inr, refl, ◌∙◌, subst, arith}
+use Rattle.std.proofs.Common.{◌≡◌, ◌⊎◌, ℕ, List, [], Option, None, Some, true, Ok, Err, Result, inl, inr, refl, ◌∙◌, subst, arith}
+use Rattle.blob_store.specs.Area.{Area}
 use Rattle.blob_store.specs.Events.{Act}
 use Rattle.blob_store.specs.Moments.{LeavesOnly}
 use Rattle.blob_store.specs.Plans.{Makes}
@@ -12,11 +13,13 @@ use Rattle.catalog_doc.specs.Verdict.{verdict}
 use Rattle.catalog_doc.specs.declared.change.Change.{Change}
 use Rattle.catalog_doc.specs.declared.change.Committed.{Committed}
 use Rattle.catalog_doc.specs.declared.error.CommitErr.{CommitErr}
+use Rattle.catalog_doc.specs.declared.row.Row.{Row}
 use Rattle.catalog_doc.specs.declared.error.CommitErr.TheVariants.{Empty, TooMany, Twice, Exists, Absent, Already, IdFull, Full, ClockEnd, Fault, Damaged, Memory}
 use Rattle.catalog_opening.specs.Openings.{IsStoreOf}
 use Rattle.catalog_rows.specs.Reasons.{misshapen}
 use Rattle.catalog_core.specs.Committing.{Commits, IsSettledBy, MayBeCommitted, RunsCommit, RunsOnto, with_made, WithOrWithout}
-use Rattle.catalog_core.specs.Opened.{IsOpenFor, Opened}
+use Rattle.catalog_core.specs.Opened.{IsOpenFor, IsUnsettled, Opened}
+use Rattle.commit_plan.specs.Lookups.{IfDamagedCommit, IsLastDamaged}
 use Rattle.catalog_items.proofs.Getting.{leaves_then}
 use Rattle.catalog_core.proofs.Frames.{known_store}
 use Rattle.catalog_core.proofs.Outcomes.{runs_behind}
@@ -25,9 +28,11 @@ use Rattle.admin_wire.specs.declared.line.Line.TheVariants as line
 use Rattle.admin_wire.specs.declared.area.AreaName.TheVariants as area
 use Rattle.feed_app.specs.Answers.{answer_status}
 use Rattle.feed_app.specs.Causes.{commit_answer}
+use Rattle.feed_app.specs.Damages.{NamesLeaf}
 use Rattle.feed_app.specs.Publishes.{commit_reply, CommitsAt}
 use Rattle.feed_app.specs.Spelled.{HasCatalog, IsOpenOver, StaysSpelled}
 use Rattle.feed_app.specs.declared.answer.Answer.TheVariants.{Reply}
+use Rattle.feed_app.proofs.Holding.{told_after}
 
 pub fault_by : (e : CommitErr) → commit_answer e ≡ Reply (line.Fault area.Catalog) → e ≡ Fault
 fault_by Fault is = refl
@@ -95,6 +100,12 @@ calls_behind s now after o changes moment r over settled opens runs m base cs pl
     runs_behind plan base cs changes moment s now after r (opens m base cs plan lawful there spells is)
     (subst (λ (b : List ℕ). RunsCommit [] b cs changes moment now after r) at.0 own)
 
+-- a settled catalog's commit that tells a damaged blob tells a leaf
+pub commit_leaf : {B : Type 0} (o : Opened B) (m later : Area) (base : List ℕ) (rows : List Row) (name : List ℕ) → o.settled ≡ true
+    → IsUnsettled m o name ⊎ IsLastDamaged later base rows name → NamesLeaf name
+commit_leaf o m later base rows name settled (inl unsettled) = let no : ⊥ = cc (settled, unsettled.0) in absurd no
+commit_leaf o m later base rows name settled (inr (id, version, row, last, (is, none))) = (row.number, row.place, is)
+
 -- a commit of an open catalog, behind its opening
 pub commits_behind : {B : Type 0} (s now after : Seen) (o n : Opened B) (changes : List Change) (moment : ℕ) (r : Result Committed CommitErr)
     → StaysSpelled s now → IsOpenOver s o now → n.base ≡ o.base
@@ -103,8 +114,10 @@ pub commits_behind : {B : Type 0} (s now after : Seen) (o n : Opened B) (changes
     → o.settled ≡ true → ForOpenings s (λ base cs plan. Makes plan s now)
     → ((cs : Catalog) → IsOpenFor o now cs → RunsOnto o cs changes moment now after r)
     → ((cs : Catalog) → IsCatalog cs → MayBeCommitted cs changes moment → IsCatalog (with_made cs changes moment))
+    → ((m later : Area) → now.held ≡ Some m → after.held ≡ Some later → IfDamagedCommit r NamesLeaf)
     → CommitsAt changes moment s after r
-commits_behind s now after o n changes moment r first over same commits moments settled opens runs lawful = record {
+commits_behind s now after o n changes moment r first over same commits moments settled opens runs lawful damaged = record {
+  damaged = λ m later told left. let opened = told_after s.held now.held m first.mended told in damaged opened.0 later opened.1 left;
   calls = calls_behind s now after o changes moment r over settled opens runs;
   commits = λ base cs has.
       let at = over base cs has in

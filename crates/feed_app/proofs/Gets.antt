@@ -14,6 +14,7 @@ use Rattle.admin_wire.specs.declared.area.AreaName.{AreaName}
 use Rattle.admin_wire.specs.declared.area.AreaName.TheVariants as area
 use Rattle.feed_app.specs.Accepts.{Accepts}
 use Rattle.feed_app.specs.Answers.{answer_status}
+use Rattle.feed_app.specs.Causes.{IfCatalogDamaged}
 use Rattle.feed_app.specs.Frame.{Explains}
 use Rattle.feed_app.specs.Gets.{Gets, HasCatalogDocument, HasHiveDocument, HasIndex, HoldsDocument, HoldsServiceIndex, IsHeld, OfCatalog, OfDocument, OfHive, AnswersPath, get_meaning}
 use Rattle.feed_app.specs.Hives.{hive_area, hive_stores}
@@ -43,13 +44,19 @@ module _ {B : Type 0} (m : Members B) (path : List ℕ) (before after : Sight B)
   HiveCause answer = (hive : ServedHive) → answer ≡ Reply (line.Fault (hive_area hive))
       → AreaRose m (hive_stores before.stores hive) (hive_stores after.stores hive)
 
-  catalog_explains : (answer : Answer) (name : List ℕ) → CatalogCause answer → OfCatalog answer name (HasCatalog Told) → Explained answer
-  catalog_explains (Document bytes) name rose is = tt
-  catalog_explains (Reply (line.Refused why)) name rose is = tt
-  catalog_explains (Reply (line.Fault area.Catalog)) name rose is = (tt, rose refl)
-  catalog_explains (Reply (line.Damaged area.Catalog blob)) name rose is = (tt, inl (λ base cs has. is.document base cs has))
-  catalog_explains (Reply line.Memory) name rose is = tt
-  catalog_explains _ name rose is = absurd is.kind
+  -- a blob of the catalog that is told as damaged isn't held afterwards
+  abbrev Absent : Answer → Type 0
+  Absent answer = (area later : Area) → held m before.stores.catalog ≡ Some area → held m after.stores.catalog ≡ Some later
+      → IfCatalogDamaged answer (λ blob. get later blob ≡ None)
+
+  catalog_explains : (answer : Answer) (name : List ℕ) → CatalogCause answer → Absent answer → OfCatalog answer name (HasCatalog Told) → Explained answer
+  catalog_explains (Document bytes) name rose absent is = tt
+  catalog_explains (Reply (line.Refused why)) name rose absent is = tt
+  catalog_explains (Reply (line.Fault area.Catalog)) name rose absent is = (tt, rose refl)
+  catalog_explains (Reply (line.Damaged area.Catalog blob)) name rose absent is =
+      (tt, inl ((λ base cs has. is.document base cs has), λ area later told left. inr (inl (absent area later told left))))
+  catalog_explains (Reply line.Memory) name rose absent is = tt
+  catalog_explains _ name rose absent is = absurd is.kind
 
   hive_explains : (hive : ServedHive) (answer : Answer) (rest : List ℕ) (told : Option Area) → IsHivePath hive path rest → HiveCause answer
       → OfHive hive answer rest told → Explained answer
@@ -61,16 +68,16 @@ module _ {B : Type 0} (m : Members B) (path : List ℕ) (before after : Sight B)
   hive_explains hive (Reply line.Memory) rest told names rose is = tt
   hive_explains hive _ rest told names rose is = absurd is
 
-  pub explains : (given : Option (List ℕ)) (now : Seen) (answer : Answer) (old new : ServedHive → B) → CatalogCause answer → HiveCause answer
-      → Gets m given answer path Told now old new → Explained answer
-  explains given now answer old new rose other (inl (closed, same)) =
-      closed_explains m (get_meaning m path).reach before after given now answer tt rose closed
-  explains given now answer old new rose other (inr (may, inl (hive, rest, names, is, others), calls)) = hive_explains hive answer rest (held m (old hive)) names other is
-  explains given now answer old new rose other (inr (may, inr (same, inl (name, names, is)), calls)) = catalog_explains answer name rose is
-  explains given now answer old new rose other (inr (may, inr (same, inr (inl (names, (bytes, is, texts)))), calls)) = subst Explained (sym is) tt
-  explains given now answer old new rose other (inr (may, inr (same, inr (inr (inl server))), calls)) = subst Explained (sym server.1) tt
-  explains given now answer old new rose other (inr (may, inr (same, inr (inr (inr (inl unknown)))), calls)) = subst Explained (sym unknown.1) tt
-  explains given now answer old new rose other (inr (may, inr (same, inr (inr (inr (inr memory)))), calls)) = subst Explained (sym memory) tt
+  pub explains : (given : Option (List ℕ)) (answer : Answer) (old new : ServedHive → B) → CatalogCause answer → HiveCause answer
+      → Gets m given answer path Told (m.seen after.stores.catalog) old new → Explained answer
+  explains given answer old new rose other (inl (closed, same)) =
+      closed_explains m (get_meaning m path).reach before after given (m.seen after.stores.catalog) answer tt rose closed
+  explains given answer old new rose other (inr (may, inl (hive, rest, names, is, others), calls)) = hive_explains hive answer rest (held m (old hive)) names other is
+  explains given answer old new rose other (inr (may, inr (same, inl (name, names, is)), calls)) = catalog_explains answer name rose calls.absent is
+  explains given answer old new rose other (inr (may, inr (same, inr (inl (names, (bytes, is, texts)))), calls)) = subst Explained (sym is) tt
+  explains given answer old new rose other (inr (may, inr (same, inr (inr (inl server))), calls)) = subst Explained (sym server.1) tt
+  explains given answer old new rose other (inr (may, inr (same, inr (inr (inr (inl unknown)))), calls)) = subst Explained (sym unknown.1) tt
+  explains given answer old new rose other (inr (may, inr (same, inr (inr (inr (inr memory)))), calls)) = subst Explained (sym memory) tt
 
 of_as : (answer : Answer) (name : List ℕ) (Is Are : Of) → ((base : List ℕ) (cs : Catalog) → Are base cs → Is base cs) → OfCatalog answer name Is
     → OfCatalog answer name Are

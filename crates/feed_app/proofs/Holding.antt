@@ -1,9 +1,12 @@
 -- What an opening and calls of an open catalog leave of its store.
-use Rattle.std.proofs.Common.{◌≡◌, ◌≤◌, ℕ, List, true, ◌∙◌, subst, arith}
+use Rattle.std.proofs.Common.{◌≡◌, ◌≤◌, ℕ, List, Option, Some, true, inl, inr, ◌∙◌, ap, subst, arith, option_map}
 use Rattle.feed_base.specs.Counts.{HasRisen, raised}
+use Rattle.blob_store.specs.Area.{Area, with_blob}
 use Rattle.blob_store.specs.Seen.{Seen}
 use Rattle.pkg_meta.specs.Catalog.{Catalog}
 use Rattle.catalog_doc.specs.Catalogs.{IsCatalog}
+use Rattle.catalog_doc.specs.Documents.{index_text}
+use Rattle.catalog_doc.specs.Names.{index_name}
 use Rattle.catalog_doc.specs.Spelled.{SpellsCatalog}
 use Rattle.catalog_opening.specs.Openings.{IsMended, IsStoreOf, KeepsSpelling, Mends}
 use Rattle.catalog_core.specs.Framing.{StaysOpen}
@@ -12,6 +15,12 @@ use Rattle.catalog_items.proofs.Getting.{leaves_then}
 use Rattle.catalog_core.proofs.Frames.{known_store}
 use Rattle.job_round.proofs.Stays.{mended_then}
 use Rattle.feed_app.specs.Spelled.{IsOpenOver, StaysSpelled}
+
+-- where an area was told, what an opening left is told too
+pub told_after : (old now : Option Area) (m : Area) → IsMended old now → old ≡ Some m → (n : Area) × (now ≡ Some n)
+told_after old now m (inl same) is = (m, same ∙ is)
+told_after old now m (inr (base, heads, put)) is =
+    (with_blob index_name (index_text base heads) m, put ∙ ap (option_map (with_blob index_name (index_text base heads))) is)
 
 pub open_over : {B : Type 0} (s now : Seen) (o : Opened B) (A : List ℕ → Type 0)
     → ((b : List ℕ) (cs : Catalog) → IsCatalog cs → IsStoreOf s b cs → A b × (o.base ≡ b) × (o.settled ≡ true) × IsOpenFor o now cs) → IsOpenOver s o now

@@ -1,5 +1,5 @@
 -- The answers for what a lower call answers.
-use Rattle.std.specs.Prelude.{◌≡◌, ◌⊎◌, ℕ, List, Result}
+use Rattle.std.specs.Prelude.{◌≡◌, ◌⊎◌, ℕ, List, Result, ⊤}
 use Rattle.std.specs.declared.result.Result.TheVariants.{Ok, Err}
 use Rattle.admin_wire.specs.declared.area.AreaName.{AreaName}
 use Rattle.admin_wire.specs.declared.area.AreaName.TheVariants as area
@@ -64,6 +64,11 @@ abbrev pub read_answer : ReadErr → Answer
 read_answer (reading.Damaged name) = Reply (Damaged area.Catalog name)
 read_answer reading.Fault = Reply (Fault area.Catalog)
 read_answer reading.Memory = Reply Memory
+
+-- what holds of the name of a blob of the catalog, where one is told as damaged
+abbrev pub IfCatalogDamaged : Answer → (List ℕ → Type 0) → Type 0
+IfCatalogDamaged (Reply (Damaged area.Catalog blob)) P = P blob
+IfCatalogDamaged _ P = ⊤
 
 -- a blob of this name in this area is told as damaged, or memory ran out
 abbrev pub AnswersDamage : AreaName → List ℕ → Answer → Type 0

@@ -3,6 +3,7 @@ use Rattle.std.specs.Prelude.{◌≡◌, ◌⊎◌, ℕ, List, [], ◌∷◌, Op
 use Rattle.std.specs.FinMap.{get}
 use Rattle.blob_store.specs.Area.{Area}
 use Rattle.blob_store.specs.Events.{Get}
+use Rattle.blob_store.specs.Plans.{Makes}
 use Rattle.blob_store.specs.Seen.{Seen}
 use Rattle.cursor_doc.specs.Cursor.{cursor_name}
 use Rattle.fold_core.specs.declared.hive.HiveName.{HiveName}
@@ -31,6 +32,8 @@ TellsCursor hive _ held = ⊥
 pub record CursorCalls (answer : Answer) (catalog later old new : Seen) : Type 0 where
   pub opening : OpensAlone catalog later
   pub hive : RunsBehind [] (Get cursor_name ∷ []) answer old new
+  -- told as damaged, it was got
+  pub got : (which : HiveName) (name : List ℕ) → answer ≡ Reply (line.Damaged (area.Hive which) name) → Makes (Get cursor_name ∷ []) old new
 
 -- what a `cursor` answers: of an area that opens no catalog, or of one that is open
 abbrev pub Cursors : Option (List ℕ) → HiveName → Answer → (catalog later : Seen) → Type 0 → (old new : Seen) → Type 0

@@ -6,7 +6,7 @@ use Rattle.admin_wire.specs.declared.area.AreaName.TheVariants as area
 use Rattle.admin_wire.specs.declared.line.Line.TheVariants as line
 use Rattle.fold_core.specs.declared.hive.HiveName.{HiveName}
 use Rattle.fold_core.specs.declared.hive.HiveName.TheVariants as hives
-use Rattle.feed_app.specs.Damages.{IsLostOfHive, IsUnread}
+use Rattle.feed_app.specs.Damages.{IsLostOfCatalog, IsLostOfHive, IsUnread}
 use Rattle.feed_app.specs.Outside.{Members, Sight, Rose, AreaRose, area_of, held}
 use Rattle.feed_app.specs.Spelled.{ForSpelled, IsSpelled, StaysSpelled}
 use Rattle.feed_app.specs.declared.answer.Answer.{Answer}
@@ -75,11 +75,12 @@ KeepsValue Changes old new = ⊤
 abbrev pub ChangesHive : Reach → Type 0
 ChangesHive reach = (hive : HiveName) × (touch_of reach (area.Hive hive) ≡ Changes)
 
--- Why a blob of this name is told as damaged. The catalog's area spells no catalog, or hasn't got what a job would read; or the
--- hive's area has no cursor under the name, or no state.
+-- Why a blob of this name is told as damaged. The catalog's area spells no catalog, and the blob isn't as it is needed; or the area
+-- hasn't got what a job would read; or the hive's area has no cursor under the name, or no state.
 abbrev pub IsLost : {B : Type 0} → Members B → Reach → (before after : Stores B) → AreaName → List ℕ → Type 0
 IsLost m reach before after area.Catalog blob =
-    ForSpelled (m.seen before.catalog) (λ base cs. ⊥) ⊎ (ChangesHive reach × IsUnread (held m before.catalog) blob)
+    (ForSpelled (m.seen before.catalog) (λ base cs. ⊥) × IsLostOfCatalog (held m before.catalog) (held m after.catalog) blob)
+    ⊎ (ChangesHive reach × IsUnread (held m before.catalog) blob)
 IsLost m reach before after (area.Hive hive) blob =
     IsLostOfHive (IsSpelled (m.seen before.catalog)) (held m (area_of after (area.Hive hive))) blob
 

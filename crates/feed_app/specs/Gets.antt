@@ -13,6 +13,7 @@ use Rattle.catalog_doc.specs.Catalogs.{IsCatalog}
 use Rattle.catalog_doc.specs.Spelled.{SpellsCatalog}
 use Rattle.catalog_core.specs.Framing.{doc_gets}
 use Rattle.feed_app.specs.Calls.{OpensAlone, OpensWith, RunsBehind}
+use Rattle.feed_app.specs.Causes.{IfCatalogDamaged}
 use Rattle.feed_app.specs.Hives.{served_under}
 use Rattle.feed_routes.specs.Cuts.{target_path}
 use Rattle.feed_routes.specs.Index.{service_index_text}
@@ -77,7 +78,7 @@ AnswersPath m answer path Is old new =
     ⊎ ((IsUnknown path × (answer ≡ Reply (line.Refused refusal.Missing)))
     ⊎ (answer ≡ Reply line.Memory))))))
 
--- the calls of a `get` that opened a catalog, by what its path asks for
+-- the calls of a `get` that opened a catalog, by what its path asks for, and what it found of the catalog's area
 pub record GetCalls {B : Type 0} (m : Members B) (answer : Answer) (path : List ℕ) (catalog later : Seen) (old new : ServedHive → B) : Type 0 where
   -- a document of the catalog: behind the opening's it is got once, where the catalog has it
   pub document : (name : List ℕ) → IsCatalogPath path name
@@ -87,9 +88,13 @@ pub record GetCalls {B : Type 0} (m : Members B) (answer : Answer) (path : List 
   -- a document of a hive: one get of that name on the hive's area
   pub hive : (hive : ServedHive) (name : List ℕ) → IsHivePath hive path name
       → RunsBehind [] (Get name ∷ []) answer (m.seen (old hive)) (m.seen (new hive))
+  -- a blob of the catalog that is told as damaged isn't held
+  pub absent : (before after : Area) → catalog.held ≡ Some before → later.held ≡ Some after
+      → IfCatalogDamaged answer (λ blob. get after blob ≡ None)
 
 -- what a `get` answers: of an area that opens no catalog, or of one that is open
-abbrev pub Gets : {B : Type 0} → Members B → Option (List ℕ) → Answer → List ℕ → (catalog later : Seen) → (ServedHive → B) → (ServedHive → B) → Type 0
+abbrev pub Gets : {B : Type 0} → Members B → Option (List ℕ) → Answer → List ℕ → (catalog later : Seen) → (ServedHive → B)
+    → (ServedHive → B) → Type 0
 Gets m given answer path catalog later old new = (NotOpened given answer catalog later × KeepsAll old new)
     ⊎ (MayOpen given catalog × AnswersPath m answer path (HasCatalog catalog) old new × GetCalls m answer path catalog later old new)
 

@@ -1,6 +1,6 @@
 -- The command `publish`. Where the source tells its bytes and the store its area, the conditions of an answer hold those
 -- of the steps before it: input, body, opening, clock, commit.
-use Rattle.std.specs.Prelude.{◌≡◌, ◌⊎◌, ◌≤◌, ◌<◌, ℕ, List, length, Option, IfSome, Result, ⊤}
+use Rattle.std.specs.Prelude.{◌≡◌, ◌⊎◌, ◌≤◌, ◌<◌, ℕ, List, length, Option, Some, IfSome, Result, ⊤}
 use Rattle.std.specs.declared.result.Result.TheVariants.{Ok, Err}
 use Rattle.admin_wire.specs.Bodies.{ArePublishes, IsRefusedPublish}
 use Rattle.admin_wire.specs.declared.error.BodyErr.{BodyErr}
@@ -19,7 +19,9 @@ use Rattle.catalog_doc.specs.declared.change.Committed.{Committed}
 use Rattle.catalog_doc.specs.declared.error.CommitErr.{CommitErr}
 use Rattle.catalog_core.specs.Committing.{Commits, MayBeCommitted, RunsCommit, WithOrWithout, with_made}
 use Rattle.feed_app.specs.Calls.{ForOpenings}
+use Rattle.commit_plan.specs.Lookups.{IfDamagedCommit}
 use Rattle.feed_app.specs.Causes.{commit_answer}
+use Rattle.feed_app.specs.Damages.{NamesLeaf}
 use Rattle.feed_app.specs.Frame.{Meaning, Changes, most_input, nothing}
 use Rattle.feed_app.specs.Openings.{MayOpen, NotOpened}
 use Rattle.feed_app.specs.Outside.{Members, Sight, Shows, held}
@@ -55,6 +57,8 @@ pub record CommitsAt (changes : List Change) (now : ℕ) (old new : Seen) (resul
   pub commits : ForSpelled old (λ base cs. Commits cs changes now result (HasCatalog new base))
   pub moments : ForSpelled old (λ base cs. LeavesOnly old new (λ left. WithOrWithout cs changes now (SpellsCatalog left base)))
   pub calls : ForOpenings old (λ base cs plan. RunsCommit plan base cs changes now old new result)
+  -- of every area: a blob that is told as damaged is a leaf
+  pub damaged : (m later : Area) → old.held ≡ Some m → new.held ≡ Some later → IfDamagedCommit result NamesLeaf
   -- with the commit that the verdict takes it is a lawful one
   pub lawful : ForSpelled old (λ base cs. MayBeCommitted cs changes now → IsCatalog (with_made cs changes now))
 

@@ -1,6 +1,7 @@
 // The command `cursor`.
 ghost use Rattle.std.specs.Prelude.{◌≡◌, ◌∷◌, [], ℕ, List, Option, option_map};
 ghost use Rattle.blob_store.specs.Events.{Get};
+ghost use Rattle.blob_store.specs.Plans.{Makes};
 ghost use Rattle.cursor_doc.specs.Cursor.{cursor_name};
 ghost use Rattle.feed_base.specs.Counts.{HasRisen};
 ghost use Rattle.fold_core.specs.declared.hive.HiveName.{HiveName};
@@ -22,6 +23,8 @@ use std::alloc::Global;
 fn cursor_in<B: Blobs>(alloc: Global, area: &mut B, hive: HiveName) -> Answer
     ensures is { TellsCursor hive result (B.seen area.old).held }
     ensures runs { RunsBehind [] (Get cursor_name ∷ []) result (B.seen area.old) (B.seen area.new) }
+    ensures got { (which : HiveName) (name : List ℕ) → result ≡ Answer.Reply (Line.Damaged (AreaName.Hive which) name)
+        → Makes (Get cursor_name ∷ []) (B.seen area.old) (B.seen area.new) }
     ensures same { (B.seen area.new).held ≡ (B.seen area.old).held }
     ensures hive_cause { result ≡ Answer.Reply (Line.Fault (AreaName.Hive hive)) → HasRisen (B.seen area.old).faults (B.seen area.new).faults }
 {
@@ -43,7 +46,11 @@ fn cursor_among<B: Blobs>(
     ensures is { TellsCursor hive result (held B.Blobs (by_hive_name plain.old semver2.old content.old auto.old hive)) }
     ensures runs { RunsBehind [] (Get cursor_name ∷ []) result (B.seen (by_hive_name plain.old semver2.old content.old auto.old hive))
         (B.seen (by_hive_name plain.new semver2.new content.new auto.new hive)) }
-    ensures same { held B.Blobs (by_hive_name plain.new semver2.new content.new auto.new hive) ≡ held B.Blobs (by_hive_name plain.old semver2.old content.old auto.old hive) }
+    ensures got { (which : HiveName) (name : List ℕ) → result ≡ Answer.Reply (Line.Damaged (AreaName.Hive which) name)
+        → Makes (Get cursor_name ∷ []) (B.seen (by_hive_name plain.old semver2.old content.old auto.old hive))
+        (B.seen (by_hive_name plain.new semver2.new content.new auto.new hive)) }
+    ensures same { held B.Blobs (by_hive_name plain.new semver2.new content.new auto.new hive)
+        ≡ held B.Blobs (by_hive_name plain.old semver2.old content.old auto.old hive) }
     ensures hive_cause { result ≡ Answer.Reply (Line.Fault (AreaName.Hive hive))
         → AreaRose B.Blobs (by_hive_name plain.old semver2.old content.old auto.old hive) (by_hive_name plain.new semver2.new content.new auto.new hive) }
     ensures others { KeepsBut hive (by_hive_name plain.old semver2.old content.old auto.old) (by_hive_name plain.new semver2.new content.new auto.new) }

@@ -1,6 +1,8 @@
 // The command `get`.
-ghost use Rattle.std.specs.Prelude.{◌≡◌, ◌⊎◌, ◌∷◌, [], ℕ, List, Option, option_map};
+ghost use Rattle.std.specs.Prelude.{◌≡◌, ◌⊎◌, ◌∷◌, [], ℕ, List, Option, None, Some, option_map, true};
+ghost use Rattle.std.specs.FinMap as map;
 ghost use Rattle.std.specs.Option.{is_some};
+ghost use Rattle.blob_store.specs.Area.{Area};
 ghost use Rattle.blob_store.specs.Events.{Get};
 ghost use Rattle.feed_base.specs.Counts.{HasRisen};
 ghost use Rattle.pkg_meta.specs.declared.commit.Stored.{Stored};
@@ -11,6 +13,7 @@ ghost use Rattle.feed_routes.specs.Cuts.{target_path};
 ghost use Rattle.feed_routes.specs.Index.{service_index_text};
 ghost use Rattle.feed_app.specs.declared.hives.ServedHive.{ServedHive};
 ghost use Rattle.feed_app.specs.Calls.{RunsBehind};
+ghost use Rattle.feed_app.specs.Causes.{IfCatalogDamaged};
 ghost use Rattle.feed_app.specs.Frame.{IsDone, KeepsArea};
 ghost use Rattle.feed_app.specs.Gets.{IsOfCatalog, OfDocument, OfHive, AnswersPath, asked_under, get_meaning};
 ghost use Rattle.feed_app.specs.Hives.{KeepsOthers, by_hive, hive_area};
@@ -37,6 +40,8 @@ fn catalog_document<B: Blobs>(alloc: Global, catalog: &mut Catalog<B>, name: &st
     ensures other { (hive : ServedHive) → result ≡ Answer.Reply (Line.Fault (hive_area hive)) → ⊥ }
     ensures runs { (cs : List Stored) → IsReady catalog.old (B.seen catalog.old.area) cs
         → RunsBehind [] (doc_gets (is_some (doc_at catalog.old.base cs name.now)) name.now) result (B.seen catalog.old.area) (B.seen catalog.new.area) }
+    ensures absent { catalog.old.settled ≡ true → (m later : Area) → (B.seen catalog.old.area).held ≡ Some m
+        → (B.seen catalog.new.area).held ≡ Some later → IfCatalogDamaged result (λ blob. map.get later blob ≡ None) }
 {
     match catalog.doc(alloc, name) {
         Ok(Some(bytes)) => Answer::Document(bytes),
@@ -112,6 +117,8 @@ fn document<B: Blobs>(
     ensures document { (cs : List Stored) (name : List ℕ) → IsReady catalog.old (B.seen catalog.old.area) cs → IsCatalogPath path.now name
         → RunsBehind [] (doc_gets (is_some (doc_at catalog.old.base cs name)) name) result (B.seen catalog.old.area) (B.seen catalog.new.area) }
     ensures alone { ((name : List ℕ) → IsCatalogPath path.now name → ⊥) → catalog.new ≡ catalog.old }
+    ensures absent { catalog.old.settled ≡ true → (m later : Area) → (B.seen catalog.old.area).held ≡ Some m
+        → (B.seen catalog.new.area).held ≡ Some later → IfCatalogDamaged result (λ blob. map.get later blob ≡ None) }
     ensures asks { (hive : ServedHive) (name : List ℕ) → IsHivePath hive path.now name → RunsBehind [] (Get name ∷ []) result
         (B.seen (by_hive plain.old semver2.old content.old hive)) (B.seen (by_hive plain.new semver2.new content.new hive)) }
     ensures keeps { (hive : ServedHive) → KeepsArea B.Blobs (asked_under (target_path path.now) hive)

@@ -16,18 +16,21 @@ use feed_base::{Clock, Sink, Source};
 /// base address of a catalog.
 pub fn serves_documents<B: Blobs, I: Source, O: Sink, C: Clock>()
     ensures catalog { let b = bounds B.Blobs I.Source O.Sink C.Clock in ForRuns b (λ words before status after. (path bytes : List ℕ)
-        → command_of words ≡ Some (Get path) → MayOpen (base_of words) (b.blobs.seen before.stores.catalog) → HasCatalogDocument path bytes (held b.blobs before.stores.catalog)
+        → command_of words ≡ Some (Get path) → MayOpen (base_of words) (b.blobs.seen before.stores.catalog)
+        → HasCatalogDocument path bytes (held b.blobs before.stores.catalog)
         → (AreaRose b.blobs before.stores.catalog after.stores.catalog → ⊥)
         → (Rose (output_of b.sink before.output) (output_of b.sink after.output) → ⊥)
         → IsServed bytes status (output_of b.sink before.output) (output_of b.sink after.output)) }
     ensures index { let b = bounds B.Blobs I.Source O.Sink C.Clock in ForRuns b (λ words before status after. (path bytes : List ℕ)
-        → command_of words ≡ Some (Get path) → MayOpen (base_of words) (b.blobs.seen before.stores.catalog) → HasIndex path bytes (held b.blobs before.stores.catalog)
+        → command_of words ≡ Some (Get path) → MayOpen (base_of words) (b.blobs.seen before.stores.catalog)
+        → HasIndex path bytes (held b.blobs before.stores.catalog)
         → (AreaRose b.blobs before.stores.catalog after.stores.catalog → ⊥)
         → (Rose (output_of b.sink before.output) (output_of b.sink after.output) → ⊥)
         → IsServed bytes status (output_of b.sink before.output) (output_of b.sink after.output)) }
     ensures hive { let b = bounds B.Blobs I.Source O.Sink C.Clock in
         ForRuns b (λ words before status after. (hive : ServedHive) (path bytes : List ℕ) → command_of words ≡ Some (Get path)
-        → MayOpen (base_of words) (b.blobs.seen before.stores.catalog) → HasHiveDocument hive path bytes (held b.blobs before.stores.catalog) (held b.blobs (hive_stores before.stores hive))
+        → MayOpen (base_of words) (b.blobs.seen before.stores.catalog)
+        → HasHiveDocument hive path bytes (held b.blobs before.stores.catalog) (held b.blobs (hive_stores before.stores hive))
         → (AreaRose b.blobs before.stores.catalog after.stores.catalog → ⊥)
         → (AreaRose b.blobs (hive_stores before.stores hive) (hive_stores after.stores hive) → ⊥)
         → (Rose (output_of b.sink before.output) (output_of b.sink after.output) → ⊥)

@@ -21,7 +21,8 @@ pub fn answers_usage<B: Blobs, I: Source, O: Sink, C: Clock>()
 
 /// Status 3 comes only for words with a meaning, 4 only where the count of an area that the command touches rose, 5 only
 /// where that of the input or the output did, 6 only where the command touches an area that hasn't got a blob
-/// as it is to be: the catalog's spells no catalog, or has nothing that a job would read, or the hive's has no cursor or no state;
+/// as it is to be: the catalog's spells no catalog, and the blob isn't as an opening needs it, isn't held or is a leaf; or it has
+/// nothing that a job would read; or the hive's has no cursor or no state;
 /// and 7 only for a command that reads the input, where that is too long.
 pub fn explains_statuses<B: Blobs, I: Source, O: Sink, C: Clock>()
     ensures refused { ForRuns (bounds B.Blobs I.Source O.Sink C.Clock) (λ words before status after. status ≡ 3

@@ -61,7 +61,8 @@ pub(crate) fn commit_names<B: Blobs, C: Clock>(
     clock: &mut C,
 ) -> (Answer, Stores<B>)
     ensures { (input : Stream) → IsDone B.Blobs (names_meaning B.Blobs kind (pairs_of (texts words.now)))
-        (over (option_map (λ t. t.now) base.entry) stores input (C.answers clock.old)) result.0 (over (option_map (λ t. t.now) base.entry) result.1 input (C.answers clock.new)) }
+        (over (option_map (λ t. t.now) base.entry) stores input (C.answers clock.old)) result.0
+        (over (option_map (λ t. t.now) base.entry) result.1 input (C.answers clock.new)) }
 {
     let mut stores = stores;
     let changes = match read_pairs(alloc, kind, words) {

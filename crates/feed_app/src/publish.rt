@@ -20,7 +20,8 @@ pub(crate) fn publish<B: Blobs, I: Source, C: Clock>(
     input: &mut I,
     clock: &mut C,
 ) -> (Answer, Stores<B>)
-    ensures { IsDone B.Blobs (publish_meaning B.Blobs) (over (option_map (λ t. t.now) base.entry) stores (input_of I.Source input.old) (C.answers clock.old)) result.0
+    ensures { IsDone B.Blobs (publish_meaning B.Blobs) (over (option_map (λ t. t.now) base.entry) stores (input_of I.Source input.old)
+        (C.answers clock.old)) result.0
         (over (option_map (λ t. t.now) base.entry) result.1 (input_of I.Source input.new) (C.answers clock.new)) }
 {
     let mut stores = stores;

@@ -34,7 +34,8 @@ fn obey<B: Blobs, I: Source, C: Clock>(
     input: &mut I,
     clock: &mut C,
 ) -> (Answer, Stores<B>)
-    ensures done { IsDone B.Blobs (meaning B.Blobs (asked command.entry)) (over (option_map (λ t. t.now) base.entry) stores (input_of I.Source input.old) (C.answers clock.old))
+    ensures done { IsDone B.Blobs (meaning B.Blobs (asked command.entry)) (over (option_map (λ t. t.now) base.entry) stores
+        (input_of I.Source input.old) (C.answers clock.old))
         result.0 (over (option_map (λ t. t.now) base.entry) result.1 (input_of I.Source input.new) (C.answers clock.new)) }
     ensures unread { KeepsValue (meaning B.Blobs (asked command.entry)).reach.input input.old input.new }
     ensures unasked { KeepsValue (meaning B.Blobs (asked command.entry)).reach.clock clock.old clock.new }
@@ -77,7 +78,8 @@ fn act<B: Blobs, I: Source, C: Clock>(
     input: &mut I,
     clock: &mut C,
 ) -> (Answer, Stores<B>)
-    ensures does { Does B.Blobs (command_of (texts words.now)) (over (base_of (texts words.now)) stores (input_of I.Source input.old) (C.answers clock.old)) result.0
+    ensures does { Does B.Blobs (command_of (texts words.now)) (over (base_of (texts words.now)) stores (input_of I.Source input.old)
+        (C.answers clock.old)) result.0
         (over (base_of (texts words.now)) result.1 (input_of I.Source input.new) (C.answers clock.new)) }
     ensures unread { KeepsValue (reach_of B.Blobs (command_of (texts words.now))).input input.old input.new }
     ensures unasked { KeepsValue (reach_of B.Blobs (command_of (texts words.now))).clock clock.old clock.new }

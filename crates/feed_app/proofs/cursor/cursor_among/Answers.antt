@@ -60,3 +60,15 @@ returns-in-Content-clause-runs g c = rw c.in-Content.is c.cursor_in-in-Content.e
 
 pub returns-in-Auto-clause-runs : goal.returns-in-Auto-clause-runs
 returns-in-Auto-clause-runs g c = rw c.in-Auto.is c.cursor_in-in-Auto.ensures.runs
+
+pub returns-in-Plain-clause-got : goal.returns-in-Plain-clause-got
+returns-in-Plain-clause-got g c = rw c.in-Plain.is c.cursor_in.ensures.got
+
+pub returns-in-SemVer2-clause-got : goal.returns-in-SemVer2-clause-got
+returns-in-SemVer2-clause-got g c = rw c.in-SemVer2.is c.cursor_in-in-SemVer2.ensures.got
+
+pub returns-in-Content-clause-got : goal.returns-in-Content-clause-got
+returns-in-Content-clause-got g c = rw c.in-Content.is c.cursor_in-in-Content.ensures.got
+
+pub returns-in-Auto-clause-got : goal.returns-in-Auto-clause-got
+returns-in-Auto-clause-got g c = rw c.in-Auto.is c.cursor_in-in-Auto.ensures.got

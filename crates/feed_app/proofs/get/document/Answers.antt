@@ -1,4 +1,5 @@
-use Rattle.std.proofs.Common.{◌∙◌, ◌∷◌, [], ℕ, List, subst}
+use Rattle.std.proofs.Common.{◌≡◌, ◌∙◌, ◌∷◌, [], ℕ, List, None, ⊎_elim, subst, sym}
+use Rattle.std.specs.FinMap.{get}
 use Rattle.std.specs.Option.{is_some}
 use Rattle.blob_store.specs.Events.{Get}
 use Rattle.catalog_doc.specs.CatDocs.{doc_at}
@@ -7,11 +8,12 @@ use Rattle.catalog_core.proofs.Frames.{stays_as}
 use Rattle.feed_routes.specs.Cuts.{target_path}
 use Rattle.feed_routes.specs.declared.ask.Ask.TheVariants as ask
 use Rattle.feed_app.specs.Calls.{RunsBehind}
+use Rattle.feed_app.specs.Causes.{IfCatalogDamaged}
 use Rattle.feed_app.specs.Gets.{OfHive}
 use Rattle.feed_app.specs.Targets.{hive_ask}
 use Rattle.feed_app.specs.declared.hives.ServedHive.{ServedHive}
 use Rattle.feed_app.proofs.Asked.{catalog_hive, catalog_index, catalog_server, hive_index, hive_server, same_hive, same_name}
-use Rattle.feed_app.proofs.Behind.{short_before}
+use Rattle.feed_app.proofs.Behind.{hive_whole, short_before}
 use Rattle.feed_app.specs.Hives.{by_hive}
 use Rattle.feed_app.specs.Outside.{held}
 use Rattle.feed_app.specs.declared.answer.Answer.{Answer}
@@ -95,3 +97,12 @@ pub returns-in-Err-clause-asks : goal.returns-in-Err-clause-asks
 returns-in-Err-clause-asks g c = λ hive name names.
     let store = by_hive c.args.plain.now c.args.semver2.now c.args.content.now hive in
     short_before (Get name ∷ []) (g.B.Blobs.seen store) (g.met.B.Blobs.now store)
+
+pub returns-in-Ok-Index-clause-absent : goal.returns-in-Ok-Index-clause-absent
+returns-in-Ok-Index-clause-absent g c = λ settled m later told left. ⊎_elim
+    (λ is. subst (λ (x : Answer). IfCatalogDamaged x (λ blob. get later blob ≡ None)) (sym is) tt)
+    (λ is. subst (λ (x : Answer). IfCatalogDamaged x (λ blob. get later blob ≡ None)) (sym is) tt) c.index_document.ensures
+
+pub returns-in-Ok-Hive-clause-absent : goal.returns-in-Ok-Hive-clause-absent
+returns-in-Ok-Hive-clause-absent g c = λ settled m later told left.
+    hive_whole c.in-Ok-Hive.hive c.from_hive.result c.as_str-in-Ok-Hive.result.now _ (λ blob. get later blob ≡ None) c.from_hive.ensures.is

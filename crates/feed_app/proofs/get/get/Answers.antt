@@ -33,7 +33,8 @@ returns-in-Ok g c = λ input clock.
           (hive_stores c.args.stores) (hive_stores left) opened c.document-answer.ensures.is,
       get_calls g.B.Blobs c.document-answer.result c.args.path.now s c.in-Ok.catalog c.document-answer.new.catalog c.into_area.result
           (hive_stores c.args.stores) (hive_stores left) c.into_area.ensures opened c.in-Ok.ensures.settled c.in-Ok.ensures.runs
-          c.document-answer.ensures.document c.document-answer.ensures.alone c.document-answer.ensures.asks,
+          c.document-answer.ensures.document c.document-answer.ensures.alone c.document-answer.ensures.asks
+          c.in-Ok.ensures.mends.area (c.document-answer.ensures.absent c.in-Ok.ensures.settled),
     ) in
     record {
       keeps = record {
@@ -44,7 +45,7 @@ returns-in-Ok g c = λ input clock.
         content = c.document-answer.ensures.keeps the.Content;
         auto = refl;
       };
-      explains = explains g.B.Blobs c.args.path.now (over given c.args.stores input clock) (over given left input clock) given (g.B.Blobs.seen left.catalog) c.document-answer.result
+      explains = explains g.B.Blobs c.args.path.now (over given c.args.stores input clock) (over given left input clock) given c.document-answer.result
           (hive_stores c.args.stores) (hive_stores left)
           (λ e. subst (λ x. HasRisen s.faults (g.B.Blobs.seen x).faults) (sym c.into_area.ensures)
           (fault_rose s now _ _ c.in-Ok.ensures.mends c.document-answer.ensures.stays.mends e))
@@ -60,7 +61,7 @@ returns-in-Err g c = λ input clock.
     let left = record c.args.stores { catalog = c.in-Err.area } in
     let path = target_path c.args.path.now in
     let closed = subst (λ (a : Answer). NotOpened given a s now) (sym c.of_opening.ensures)
-    (closed_by given c.in-Err.error s now _ c.in-Err.ensures.missing c.in-Err.ensures.damaged c.in-Err.ensures.refused c.in-Err.ensures.runs_refused) in
+    (closed_by given c.in-Err.error s now _ c.in-Err.ensures.missing c.in-Err.ensures.damaged c.in-Err.ensures.other_base c.in-Err.ensures.refused c.in-Err.ensures.runs_refused) in
     let is = inl (closed, λ hive. refl) in
     record {
       keeps = record {
@@ -70,7 +71,7 @@ returns-in-Err g c = λ input clock.
         content = kept g.B.Blobs path the.Content c.args.stores.content;
         auto = refl;
       };
-      explains = explains g.B.Blobs c.args.path.now (over given c.args.stores input clock) (over given left input clock) given now c.of_opening.result (hive_stores c.args.stores)
+      explains = explains g.B.Blobs c.args.path.now (over given c.args.stores input clock) (over given left input clock) given c.of_opening.result (hive_stores c.args.stores)
           (hive_stores left)
           (closed_rose c.in-Err.error s now c.of_opening.result c.of_opening.ensures c.in-Err.ensures.mends_refused)
           (λ hive. not_of_hive given c.of_opening.result s now (hive_name hive) closed) is;

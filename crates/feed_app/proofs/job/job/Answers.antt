@@ -69,7 +69,7 @@ returns-in-Err g c = λ input clock.
     let now = m.seen c.in-Err.area in
     let left = record c.args.stores { catalog = c.in-Err.area } in
     let closed = subst (λ (a : Answer). NotOpened given a s now) (sym c.of_opening.ensures)
-    (closed_by given c.in-Err.error s now _ c.in-Err.ensures.missing c.in-Err.ensures.damaged c.in-Err.ensures.refused c.in-Err.ensures.runs_refused) in
+    (closed_by given c.in-Err.error s now _ c.in-Err.ensures.missing c.in-Err.ensures.damaged c.in-Err.ensures.other_base c.in-Err.ensures.refused c.in-Err.ensures.runs_refused) in
     job_done m hive (over given c.args.stores input clock) (over given left input clock) c.of_opening.result
     (job_keeps m c.args.stores left (closed_spelled s now _ _ c.in-Err.ensures.mends_refused c.in-Err.ensures.refused c.in-Err.ensures.moments_refused)
     hive (λ other not. refl))
