@@ -54,7 +54,8 @@ StepLeads {B} {I} {O} {C} b step (Ended status) old new = (before after : Outsid
     × RunsCommand b step.words before status after × Hold b.blobs after.stores new
 StepLeads {B} {I} {O} {C} b step Crashed old new = (before after : Outside B I O C) × (status : ℕ) × IsCalled b step old before
     × RunsCommand b step.words before status after × (MakesCatalog (command_of step.words) → ⊥)
-    × ((name : AreaName) → IsLeftBy b.blobs (touch_of (reach_of b.blobs (command_of step.words)) name) (area_of before.stores name) (area_of after.stores name) (new name))
+    × ((name : AreaName) → IsLeftBy b.blobs (touch_of (reach_of b.blobs (command_of step.words)) name)
+    (area_of before.stores name) (area_of after.stores name) (new name))
 
 -- the steps lead there, one after the other
 abbrev pub Lead : {B I O C : Type 0} → Bounds B I O C → List Step → Areas → Areas → Type 0

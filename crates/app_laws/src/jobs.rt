@@ -21,10 +21,12 @@ use feed_base::{Clock, Sink, Source};
 
 /// A job of status 0, over a hive that was sound, leaves exactly what the hive makes of the whole catalog from scratch.
 pub fn jobs_leave_documents<B: Blobs, I: Source, O: Sink, C: Clock>()
-    ensures settled { let b = bounds B.Blobs I.Source O.Sink C.Clock in ForRuns b (λ words before status after. (hive : HiveName) (base : List ℕ) (cs : Catalog) (c : ℕ)
+    ensures settled { let b = bounds B.Blobs I.Source O.Sink C.Clock in ForRuns b (λ words before status after.
+        (hive : HiveName) (base : List ℕ) (cs : Catalog) (c : ℕ)
         → command_of words ≡ Some (Job hive) → HoldsHive b.blobs before.stores hive base cs c → status ≡ 0
         → HoldsArea (b.blobs.seen (area_of after.stores (area.Hive hive))) (SettledArea (hive_fold hive base) cs (length cs))) }
-    ensures documents { let b = bounds B.Blobs I.Source O.Sink C.Clock in ForRuns b (λ words before status after. (hive : HiveName) (base : List ℕ) (cs : Catalog) (c : ℕ)
+    ensures documents { let b = bounds B.Blobs I.Source O.Sink C.Clock in ForRuns b (λ words before status after.
+        (hive : HiveName) (base : List ℕ) (cs : Catalog) (c : ℕ)
         → command_of words ≡ Some (Job hive) → HoldsHive b.blobs before.stores hive base cs c → status ≡ 0
         → HoldsArea (b.blobs.seen (area_of after.stores (area.Hive hive))) (IsFromScratchOf hive base cs)) }
 {}
@@ -32,10 +34,12 @@ pub fn jobs_leave_documents<B: Blobs, I: Source, O: Sink, C: Clock>()
 /// Whatever a job over a sound hive answers, the hive is sound with its cursor where it was, or exactly what it makes of the whole
 /// catalog; so is what a crash leaves at each moment.
 pub fn jobs_stay_sound<B: Blobs, I: Source, O: Sink, C: Clock>()
-    ensures held { let b = bounds B.Blobs I.Source O.Sink C.Clock in ForRuns b (λ words before status after. (hive : HiveName) (base : List ℕ) (cs : Catalog) (c : ℕ)
+    ensures held { let b = bounds B.Blobs I.Source O.Sink C.Clock in ForRuns b (λ words before status after.
+        (hive : HiveName) (base : List ℕ) (cs : Catalog) (c : ℕ)
         → command_of words ≡ Some (Job hive) → HoldsHive b.blobs before.stores hive base cs c
         → HoldsArea (b.blobs.seen (area_of after.stores (area.Hive hive))) (IsSoundOrSettled (hive_fold hive base) cs c)) }
-    ensures moments { let b = bounds B.Blobs I.Source O.Sink C.Clock in ForRuns b (λ words before status after. (hive : HiveName) (base : List ℕ) (cs : Catalog) (c : ℕ)
+    ensures moments { let b = bounds B.Blobs I.Source O.Sink C.Clock in ForRuns b (λ words before status after.
+        (hive : HiveName) (base : List ℕ) (cs : Catalog) (c : ℕ)
         → command_of words ≡ Some (Job hive) → HoldsHive b.blobs before.stores hive base cs c
         → LeavesOnly (b.blobs.seen (area_of before.stores (area.Hive hive))) (b.blobs.seen (area_of after.stores (area.Hive hive)))
         (IsSoundOrSettled (hive_fold hive base) cs c)) }
@@ -44,10 +48,12 @@ pub fn jobs_stay_sound<B: Blobs, I: Source, O: Sink, C: Clock>()
 /// A `cursor` of status 0 over a sound hive tells where its cursor stands, and a job of status 0 the number of the commits, where it then
 /// stands.
 pub fn cursors_are_told<B: Blobs, I: Source, O: Sink, C: Clock>()
-    ensures cursor { let b = bounds B.Blobs I.Source O.Sink C.Clock in ForRuns b (λ words before status after. (hive : HiveName) (base : List ℕ) (cs : Catalog) (c : ℕ)
+    ensures cursor { let b = bounds B.Blobs I.Source O.Sink C.Clock in ForRuns b (λ words before status after.
+        (hive : HiveName) (base : List ℕ) (cs : Catalog) (c : ℕ)
         → command_of words ≡ Some (Cursor hive) → HoldsHive b.blobs before.stores hive base cs c → status ≡ 0
         → HasMore (line_text (line.Cursor hive c)) (output_of b.sink before.output) (output_of b.sink after.output)) }
-    ensures job { let b = bounds B.Blobs I.Source O.Sink C.Clock in ForRuns b (λ words before status after. (hive : HiveName) (base : List ℕ) (cs : Catalog) (c : ℕ)
+    ensures job { let b = bounds B.Blobs I.Source O.Sink C.Clock in ForRuns b (λ words before status after.
+        (hive : HiveName) (base : List ℕ) (cs : Catalog) (c : ℕ)
         → command_of words ≡ Some (Job hive) → HoldsHive b.blobs before.stores hive base cs c → status ≡ 0
         → HasMore (line_text (line.Done hive (length cs))) (output_of b.sink before.output) (output_of b.sink after.output)
         ⊎ HasMore (line_text (line.Idle hive (length cs))) (output_of b.sink before.output) (output_of b.sink after.output)) }

@@ -95,7 +95,8 @@ fn last_item<B: Blobs>(
     change: &Change,
 ) -> Result<LastItem, ReadErr>
     ensures runs { RunsReading (gets_for rows.now.rows change.now) (B.seen area.old) (B.seen area.new) result }
-    ensures known { (cs : Catalog) → IsKnown rows.now (B.seen area.old) base.now cs → IsLive cs change.now → IsReadWith (IsKnownFor cs change.now) result }
+    ensures known { (cs : Catalog) → IsKnown rows.now (B.seen area.old) base.now cs → IsLive cs change.now
+        → IsReadWith (IsKnownFor cs change.now) result }
     ensures damaged { (m : Area) → (B.seen area.old).held ≡ Some m → IfDamagedRead result (IsLastDamaged m base.now rows.now.rows) }
 {
     match change {
