@@ -1,8 +1,8 @@
 pub mod Counts
+pub mod Keys
 pub mod LastRows
-pub mod Names
 pub mod Newest
 pub mod OfItems
 pub mod PageHeads
 pub mod Places
-pub mod Tables
+pub mod Table

@@ -1,52 +1,31 @@
-// Tables by which the last row of a version and the live versions of an id are found.
+// A table by which the last row of a version and the live versions of an id are found.
 ghost use Rattle.std.specs.Prelude.{◌≡◌, ◌≤◌, ◌<◌, ◌+◌, ◌-◌, ◌^◌, ◌++◌, ◌∷◌, [], true, length, drop, take, List, if◌then◌else◌, ℕ};
-ghost use Rattle.std.specs.Prelude.{unwrap_or, IfOk, IsOk, IsSome, None, OnOk, string_bytes};
+ghost use Rattle.std.specs.Prelude.{IfOk, IsOk, IsSome, None, Some, OnOk, string_bytes};
 ghost use Rattle.std.specs.BTreeMap.{get_by_text};
 ghost use Rattle.std.specs.List.{All};
 ghost use Rattle.nuget_version.specs.Printed.{key_text};
 ghost use Rattle.catalog_doc.specs.declared.row.Row.{Row};
-ghost use Rattle.catalog_rows.specs.Latest.{AreNamedFor, IsLatestOf, IsListed, IsNamedFor, is_live_at, version_name};
+ghost use Rattle.catalog_rows.specs.Latest.{AreKeysOf, IsLatestOf, IsListed, IsTold, KeepsListed, TellsSame, is_live_at, live_told, place_told};
 
 use catalog_doc::Row;
 use pkg_meta::{NoMemory, PackageId, Version};
 use std::alloc::Global;
 use std::collections::BTreeMap;
 
-/// The name of a row's version, and its id's key.
+/// What is told of an id: where the last row of each of its versions stands, and how many of them are live.
 #[derive(Drop)]
-pub(crate) struct Named {
-    pub(crate) version: String,
-    pub(crate) id: String,
+pub(crate) struct OfId {
+    // By the key of the version; it has no place while it has no row.
+    pub(crate) places: BTreeMap<String, Option<usize>>,
+    pub(crate) live: usize,
 }
 
-/// Where the last row of each version stands, and how many live versions each id has.
+/// What is told of each id, by the id's key.
 ///
-/// Versions and ids can be listed before they have rows, so that their rows are noted without memory.
+/// Versions can be listed before they have rows, so that their rows are noted without memory.
 #[derive(Drop)]
 pub(crate) struct Latest {
-    // By the name of the version; it has no place while it has no row.
-    pub(crate) places: BTreeMap<String, Option<usize>>,
-    // By the key of the id.
-    pub(crate) live: BTreeMap<String, usize>,
-}
-
-// The name of a version: the keys of the id and the version, which have no `/`, with one between them.
-fn version_name(alloc: Global, id: &PackageId, version: &Version) -> Result<String, NoMemory>
-    ensures { IfOk result (λ name. string_bytes name ≡ version_name id.now.key (key_text version.now)) }
-{
-    let id = id.key.as_str();
-    let version = version.key(alloc)?;
-    let version = version.as_str();
-    Ok(format!(in alloc; "{id}/{version}")?)
-}
-
-/// The name of a row's version, and its id's key.
-pub(crate) fn name_row(alloc: Global, row: &Row) -> Result<Named, NoMemory>
-    ensures { IfOk result (λ named. IsNamedFor named row.now) }
-{
-    let version = version_name(alloc, &row.id, &row.version)?;
-    let id = String::from_str(alloc, row.id.key.as_str())?;
-    Ok(Named { version, id })
+    pub(crate) ids: BTreeMap<String, OfId>,
 }
 
 // Whether the row at this place, where one is told, is there and no delete.
@@ -72,40 +51,57 @@ fn count_with(count: usize, live: bool, gone: bool) -> usize
     }
 }
 
-// Lists a key, with `none` where it isn't listed yet.
-fn list_key<V: Drop>(
-    alloc: Global,
-    table: &mut BTreeMap<String, V>,
-    key: &str,
-    none: V,
-) -> Result<(), NoMemory>
-    ensures listed { OnOk result (IsSome (get_by_text table.new key.now)) }
-    ensures keeps { (asked : List ℕ) → IsSome (get_by_text table.old asked) → IsSome (get_by_text table.new asked) }
-    ensures same { (asked : List ℕ) → unwrap_or (get_by_text table.new asked) none ≡ unwrap_or (get_by_text table.old asked) none }
-{
-    if !table.contains_key(key) {
-        table.insert(String::from_str(alloc, key)?, none)?;
+impl OfId {
+    fn new(alloc: Global) -> Self
+        ensures { TellsSame None (Some result) }
+    {
+        OfId {
+            places: BTreeMap::new(alloc),
+            live: 0,
+        }
     }
-    Ok(())
+
+    // The place of the last row of the version with this key.
+    fn place(&self, version: &str) -> Option<usize>
+        ensures { result ≡ place_told (Some self.now) version.now }
+    {
+        self.places.get(version).copied().unwrap_or(None)
+    }
+
+    // Lists a version, which has no place where it wasn't listed yet.
+    fn list(&mut self, alloc: Global, version: &str) -> Result<(), NoMemory>
+        ensures listed { OnOk result (IsSome (get_by_text self.new.places version.now)) }
+        ensures keeps { KeepsListed (Some self.old) (Some self.new) }
+        ensures same { TellsSame (Some self.old) (Some self.new) }
+    {
+        if !self.places.contains_key(version) {
+            self.places.insert(String::from_str(alloc, version)?, None)?;
+        }
+        Ok(())
+    }
+
+    // Takes in a row of this id behind others.
+    fn note(&mut self, version: String, earlier: &[Row], row: &Row) -> Result<(), NoMemory>
+        requires { string_bytes version ≡ key_text row.now.version }
+        ensures ok { OnOk result (IsTold row.now.id.key earlier.now (Some self.old)
+            → IsTold row.now.id.key (earlier.now ++ row.now ∷ []) (Some self.new)) }
+        ensures listed { IsSome (get_by_text self.old.places (string_bytes version)) → IsOk result }
+        ensures keeps { KeepsListed (Some self.old) (Some self.new) }
+    {
+        let place = self.places.insert(version, Some(earlier.len()))?;
+        let was_live = is_live_at(earlier, place.unwrap_or(None));
+        self.live = count_with(self.live, was_live, row.gone);
+        Ok(())
+    }
 }
 
 impl Latest {
-    ghost use Rattle.catalog_rows.specs.Latest.{place_told};
-
     pub(crate) fn new(alloc: Global) -> Self
         ensures { IsLatestOf [] result }
     {
         Latest {
-            places: BTreeMap::new(alloc),
-            live: BTreeMap::new(alloc),
+            ids: BTreeMap::new(alloc),
         }
-    }
-
-    // The place of the last row of the version with this name.
-    fn place_of(&self, name: &str) -> Option<usize>
-        ensures { result ≡ place_told self.now.places name.now }
-    {
-        self.places.get(name).copied().unwrap_or(None)
     }
 
     /// The place of the last row of a version.
@@ -115,69 +111,104 @@ impl Latest {
         id: &PackageId,
         version: &Version,
     ) -> Result<Option<usize>, NoMemory>
-        ensures { IfOk result (λ found. found ≡ place_told self.now.places (version_name id.now.key (key_text version.now))) }
+        ensures { IfOk result (λ found. found ≡ place_told (get_by_text self.now.ids id.now.key) (key_text version.now)) }
     {
-        let name = version_name(alloc, id, version)?;
-        Ok(self.place_of(name.as_str()))
+        let Some(of_id) = self.ids.get(id.key.as_str()) else {
+            return Ok(None);
+        };
+        let version = version.key(alloc)?;
+        Ok(of_id.place(version.as_str()))
     }
 
     /// How many live versions the id with this key has.
     pub(crate) fn count(&self, id: &str) -> usize
-        ensures { result ≡ unwrap_or (get_by_text self.now.live id.now) 0 }
+        ensures { result ≡ live_told (get_by_text self.now.ids id.now) }
     {
-        self.live.get(id).copied().unwrap_or(0)
-    }
-
-    // Lists a version and its id.
-    fn list(&mut self, alloc: Global, named: &Named) -> Result<(), NoMemory>
-        ensures listed { OnOk result (IsListed self.new named.now) }
-        ensures keeps { (other : Named) → IsListed self.old other → IsListed self.new other }
-        ensures same { (rows : List Row) → IsLatestOf rows self.old → IsLatestOf rows self.new }
-    {
-        list_key(alloc, &mut self.places, named.version.as_str(), None)?;
-        list_key(alloc, &mut self.live, named.id.as_str(), 0)
-    }
-
-    /// Lists versions and their ids.
-    pub(crate) fn list_all(&mut self, alloc: Global, names: &[Named]) -> Result<(), NoMemory>
-        ensures listed { OnOk result (All (IsListed self.new) names.now) }
-        ensures keeps { (other : Named) → IsListed self.old other → IsListed self.new other }
-        ensures same { (rows : List Row) → IsLatestOf rows self.old → IsLatestOf rows self.new }
-    {
-        for named in names {
-            self.list(alloc, named)?;
+        match self.ids.get(id) {
+            Some(of_id) => of_id.live,
+            None => 0,
         }
-        Ok(())
+    }
+
+    // Lists the version of a row, whose key is given.
+    fn list(&mut self, alloc: Global, row: &Row, version: &str) -> Result<(), NoMemory>
+        requires { version.now ≡ key_text row.now.version }
+        ensures listed { OnOk result (IsListed self.new row.now) }
+        ensures keeps { (other : Row) → IsListed self.old other → IsListed self.new other }
+        ensures same { (rows : List Row) → IsLatestOf rows self.old → IsLatestOf rows self.new }
+    {
+        let id = row.id.key.as_str();
+        match self.ids.get_mut(id) {
+            Some(of_id) => of_id.list(alloc, version),
+            None => {
+                let mut of_id = OfId::new(alloc);
+                of_id.list(alloc, version)?;
+                self.ids.insert(String::from_str(alloc, id)?, of_id)?;
+                Ok(())
+            }
+        }
+    }
+
+    /// Lists the versions of rows, and gives their keys.
+    pub(crate) fn list_all(&mut self, alloc: Global, rows: &[Row]) -> Result<Vec<String>, NoMemory>
+        ensures keys { IfOk result (λ keys. AreKeysOf keys.items rows.now) }
+        ensures listed { OnOk result (All (IsListed self.new) rows.now) }
+        ensures keeps { (other : Row) → IsListed self.old other → IsListed self.new other }
+        ensures same { (rows : List Row) → IsLatestOf rows self.old → IsLatestOf rows self.new }
+    {
+        let mut keys = Vec::new(alloc);
+        for row in rows {
+            let key = row.version.key(alloc)?.into_string();
+            self.list(alloc, row, key.as_str())?;
+            keys.push(key)?;
+        }
+        Ok(keys)
     }
 
     /// Takes in a row behind others.
-    pub(crate) fn note(&mut self, named: Named, earlier: &[Row], row: &Row) -> Result<(), NoMemory>
-        requires { IsNamedFor named row.now }
-        ensures ok { OnOk result (IsLatestOf earlier.now self.old → IsLatestOf (earlier.now ++ row.now ∷ []) self.new) }
-        ensures listed { IsListed self.old named → IsOk result }
-        ensures keeps { (other : Named) → IsListed self.old other → IsListed self.new other }
+    pub(crate) fn note(&mut self, alloc: Global, earlier: &[Row], row: &Row) -> Result<(), NoMemory>
+        ensures { OnOk result (IsLatestOf earlier.now self.old → IsLatestOf (earlier.now ++ row.now ∷ []) self.new) }
     {
-        let place = self.places.insert(named.version, Some(earlier.len()))?;
-        let was_live = is_live_at(earlier, place.unwrap_or(None));
-        let count = self.count(named.id.as_str());
-        self.live
-            .insert(named.id, count_with(count, was_live, row.gone))?;
-        Ok(())
+        let version = row.version.key(alloc)?.into_string();
+        let id = row.id.key.as_str();
+        match self.ids.get_mut(id) {
+            Some(of_id) => of_id.note(version, earlier, row),
+            None => {
+                let mut of_id = OfId::new(alloc);
+                of_id.note(version, earlier, row)?;
+                self.ids.insert(String::from_str(alloc, id)?, of_id)?;
+                Ok(())
+            }
+        }
     }
 
-    /// Takes in the rows from `first` on, whose versions and ids are listed.
-    pub(crate) fn note_all(&mut self, names: Vec<Named>, rows: &[Row], first: usize)
+    // Takes in a row behind others, whose version is listed under this key.
+    fn note_listed(&mut self, version: String, earlier: &[Row], row: &Row)
+        requires version { string_bytes version ≡ key_text row.now.version }
+        requires listed { IsListed self.old row.now }
+        ensures latest { IsLatestOf earlier.now self.old → IsLatestOf (earlier.now ++ row.now ∷ []) self.new }
+        ensures keeps { (other : Row) → IsListed self.old other → IsListed self.new other }
+    {
+        let Some(of_id) = self.ids.get_mut(row.id.key.as_str()) else {
+            unreachable!()
+        };
+        match of_id.note(version, earlier, row) {
+            Ok(()) => {}
+            Err(_) => unreachable!(),
+        }
+    }
+
+    /// Takes in the rows from `first` on, whose versions are listed under these keys.
+    pub(crate) fn note_all(&mut self, keys: Vec<String>, rows: &[Row], first: usize)
         requires within { first ≤ length rows.now }
-        requires named { AreNamedFor names.items (drop first rows.now) }
-        requires listed { All (IsListed self.old) names.items }
+        requires keys { AreKeysOf keys.items (drop first rows.now) }
+        requires listed { All (IsListed self.old) (drop first rows.now) }
         ensures { IsLatestOf (take first rows.now) self.old → IsLatestOf rows.now self.new }
     {
         let mut at = first;
-        for named in names {
-            match self.note(named, &rows[..at], &rows[at]) {
-                Ok(()) => at += 1,
-                Err(_) => unreachable!(),
-            }
+        for key in keys {
+            self.note_listed(key, &rows[..at], &rows[at]);
+            at += 1;
         }
     }
 }

@@ -9,20 +9,20 @@ ghost use Rattle.catalog_doc.specs.CatDocs.{all_rows, last_page, pages_of};
 ghost use Rattle.catalog_doc.specs.Catalogs.{all_items, live_count};
 ghost use Rattle.catalog_rows.specs.Kept.{HoldsSame, IsKeptOf, TakesIn};
 ghost use Rattle.catalog_rows.specs.Last.{last_row, live_rows, placed_row};
-ghost use Rattle.catalog_rows.specs.Latest.{IsLatestOf, AreNamedFor};
+ghost use Rattle.catalog_rows.specs.Latest.{IsLatestOf};
 
-use crate::latest::{Latest, Named, name_row};
+use crate::latest::Latest;
 use crate::pages::{add_head, head_of, last_count};
 use catalog_doc::{PageHead, Row};
 use pkg_meta::{Many, NoMemory, PackageId, Version};
 use std::alloc::Global;
 use std::marker::Model;
 
-/// The rows of a commit, and their names.
+/// The rows of a commit, and the keys of their versions.
 #[derive(Drop)]
 pub(crate) struct NewRows {
     pub(crate) rows: Vec<Row>,
-    pub(crate) names: Vec<Named>,
+    pub(crate) keys: Vec<String>,
 }
 
 /// The rows of a catalog, and the heads of its pages. The last row of a version, and how many live versions
@@ -47,19 +47,9 @@ impl Model for Rows {
 
     ghost view = { λ r. record { rows = r.rows.items; pages = r.pages.items; reserved = rows_in r.reserved } };
 
-    // The tables tell of the rows, and all memory that the reserved ones need is there.
+    // The table tells of the rows, and all memory that the reserved ones need is there.
     ghost invariant = { λ r. IsLatestOf r.rows.items r.latest × IfSome r.reserved (λ new. AreReady r.latest new
         × (vec_len r.rows + vec_len new.rows ≤ vec_capacity r.rows) × (vec_len r.pages < vec_capacity r.pages)) };
-}
-
-fn names_of(alloc: Global, rows: &[Row]) -> Result<Vec<Named>, NoMemory>
-    ensures { IfOk result (λ names. AreNamedFor names.items rows.now) }
-{
-    let mut names = Vec::new(alloc);
-    for row in rows {
-        names.push(name_row(alloc, row)?)?;
-    }
-    Ok(names)
 }
 
 fn latest_of(alloc: Global, rows: &[Row]) -> Result<Latest, NoMemory>
@@ -67,8 +57,7 @@ fn latest_of(alloc: Global, rows: &[Row]) -> Result<Latest, NoMemory>
 {
     let mut latest = Latest::new(alloc);
     for (at, row) in rows.iter().enumerate() {
-        let named = name_row(alloc, row)?;
-        latest.note(named, &rows[..at], row)?;
+        latest.note(alloc, &rows[..at], row)?;
     }
     Ok(latest)
 }
@@ -177,12 +166,11 @@ impl Rows {
         ensures reserved { OnOk result (self.new.reserved ≡ rows) }
         ensures err { OnErr result (self.new ≡ self.old) }
     {
-        let names = names_of(alloc, rows.as_slice())?;
-        self.latest.list_all(alloc, names.as_slice())?;
+        let keys = self.latest.list_all(alloc, rows.as_slice())?;
         self.pages.reserve(1)?;
         self.rows.reserve(rows.len())?;
         let rows = rows.into_vec();
-        self.reserved = Some(NewRows { rows, names });
+        self.reserved = Some(NewRows { rows, keys });
         Ok(())
     }
 
@@ -193,13 +181,13 @@ impl Rows {
         ensures rows { self.new.rows ≡ self.old.rows ++ self.old.reserved }
         ensures catalog { TakesIn self.old self.old.reserved self.new }
     {
-        let Some(NewRows { rows, names }) = self.reserved.take() else {
+        let Some(NewRows { rows, keys }) = self.reserved.take() else {
             unreachable!()
         };
         let first = self.rows.len();
         let head = head_of(rows.as_slice());
         append(&mut self.rows, rows);
-        self.latest.note_all(names, self.rows.as_slice(), first);
+        self.latest.note_all(keys, self.rows.as_slice(), first);
         add_head(&mut self.pages, &head);
     }
 

@@ -1,36 +1,22 @@
-use Rattle.std.proofs.Common.{◌∙◌, ap, refl, subst, sym, length, ◌<◌, ◌-◌, ◌^◌, List, ℕ, Some, arith}
-use Rattle.std.specs.Prelude.{IsSome, None, string_bytes, unwrap_or}
-use Rattle.std.specs.BTreeMap.{is_at}
-use Rattle.std.specs.Map.{lookup}
-use Rattle.std.proofs.lemmas.Map.Text.{text_cmp}
-use Rattle.catalog_rows.specs.Last.{live_rows}
-use Rattle.catalog_rows.proofs.Tables.{count_is, keys_stay, live_by_place, live_more, places_more}
+use Rattle.std.proofs.Common.{None, Some}
+use Rattle.std.specs.Prelude.{string_bytes}
+use Rattle.std.proofs.lemmas.Result.{on_ok_weaker}
+use Rattle.catalog_rows.proofs.Table.{change_new, change_written, latest_more, told_same}
 use Rattle.catalog_rows.proofs.latest.Latest.note.Goals as goal
 
-pub returns-clause-ok : goal.returns-clause-ok
-returns-clause-ok c = λ latest.
-    let rows = c.args.earlier.now in
-    let row = c.args.row.now in
-    let fits : length rows < 2 ^ 64 - 1 = omega arith in
-    record {
-      places = places_more rows row c.args.named.version (length rows) c.args.self.now.places c.insert.new.self latest.places c.requires.version refl c.in_ok-place.ensures.updates;
-      live = live_more rows row c.args.named.id c.count_with.result c.args.self.now.live c.insert-2.new.self latest.live c.requires.id
-          (count_is row rows c.is_live_at-was_live.result c.count-count.result c.count_with.result
-          (c.is_live_at-was_live.ensures ∙ live_by_place row rows (string_bytes c.args.named.version) _ c.requires.version
-          (c.unwrap_or.ensures ∙ ap (λ place. unwrap_or place None) c.in_ok-place.ensures.old ∙ latest.places (string_bytes c.args.named.version)))
-          (c.count-count.ensures ∙ latest.live c.as_str.result.now ∙ ap (λ (t : List ℕ). live_rows t rows) (c.as_str.ensures.value ∙ c.requires.id))
-          fits c.count_with.ensures)
-          c.in_ok-insert.ensures.updates;
-    }
+pub returns-in-Some : goal.returns-in-Some
+returns-in-Some c =
+    let of_id = c.note.new.self in
+    let change = change_written c.args.row.now.id.key c.as_str-id.result.now c.in-Some.of_id.now of_id c.args.self.now (record { ids = c.get_mut.follows.lender of_id })
+    c.as_str-id.ensures c.in-Some.ensures.value (c.get_mut.follows.holds of_id) in
+    on_ok_weaker c.note.result
+    (latest_more c.args.earlier.now c.args.row.now (Some c.in-Some.of_id.now) of_id c.args.self.now (record { ids = c.get_mut.follows.lender of_id }) change)
+    c.note.ensures.ok
 
-pub returns-in_err-insert-clause-keeps : goal.returns-in_err-insert-clause-keeps
-returns-in_err-insert-clause-keeps c = λ other listed. record {
-  version = keys_stay (string_bytes c.args.named.version) (Some (length c.args.earlier.now)) c.args.self.now.places c.insert.new.self c.in_ok-place.ensures.updates (string_bytes other.version) listed.version;
-  id = subst (λ (es : List _). IsSome (lookup (is_at (text_cmp (string_bytes other.id))) es)) (sym c.in_err-insert.ensures.err) listed.id;
-}
-
-pub returns-clause-keeps : goal.returns-clause-keeps
-returns-clause-keeps c = λ other listed. record {
-  version = keys_stay (string_bytes c.args.named.version) (Some (length c.args.earlier.now)) c.args.self.now.places c.insert.new.self c.in_ok-place.ensures.updates (string_bytes other.version) listed.version;
-  id = keys_stay (string_bytes c.args.named.id) c.count_with.result c.args.self.now.live c.insert-2.new.self c.in_ok-insert.ensures.updates (string_bytes other.id) listed.id;
-}
+pub returns-in_ok-insert-in-None : goal.returns-in_ok-insert-in-None
+returns-in_ok-insert-in-None c =
+    let change = change_new c.args.row.now.id.key c.as_str-id.result.now (string_bytes c.in_ok-from_str-in-None.field-0) c.note-in-None.new.self c.args.self.now
+    (record { ids = c.get_mut.follows.lender-at-none }) (record { ids = c.insert.new.self }) c.as_str-id.ensures c.in_ok-from_str-in-None.ensures.ok c.in-None.ensures.value
+    c.get_mut.follows.holds-at-none c.in_ok-insert-in-None.ensures.updates in
+    latest_more c.args.earlier.now c.args.row.now None c.note-in-None.new.self c.args.self.now (record { ids = c.insert.new.self }) change
+    (λ is. c.in_ok-note-in-None.ensures.ok (told_same c.args.row.now.id.key c.args.earlier.now None (Some c.new-of_id.result) c.new-of_id.ensures is))
