@@ -14,7 +14,7 @@ use Rattle.blob_store.proofs.Areas.{bytes_eq-same, bytes_eq-turned}
 use Rattle.catalog_doc.proofs.Spelling.{bytes_eq-true}
 use Rattle.catalog_doc.specs.declared.row.Row.{Row}
 use Rattle.catalog_rows.specs.Last.{is_no_delete, is_of_keys, last_row, live_rows}
-use Rattle.catalog_rows.specs.Latest.{is_live_at, IsLatestOf, IsListed, IsTold, KeepsListed, last_place, listed_for, TellsSame}
+use Rattle.catalog_rows.specs.Latest.{is_live_at, IsLatestOf, IsEntered, IsNoted, KeepsEntered, last_place, entered_for, NotesSame}
 use Rattle.catalog_rows.specs.declared.latest.Latest.{Latest}
 use Rattle.catalog_rows.specs.declared.latest.OfId.{OfId}
 use Rattle.catalog_rows.proofs.LastRows.{live_rows-few, live_rows-push, one}
@@ -102,7 +102,7 @@ pub not_some : {X : Type 0} (found : Option X) → is_some found ≡ false → f
 not_some None is = refl
 not_some (Some x) is = cc
 
--- a new key with the value that is told of unknown ones
+-- a new key with the value that unknown ones are taken to have
 pub key_new : {X Y : Type 0} (key : List ℕ) (none : X) (old new : BTreeMap (String Y) X) → get_by_text old key ≡ None
     → UpdatesBy string_cmp (λ k. slice_cmp nat_cmp key (string_bytes k)) old new (Some none)
     → (asked : List ℕ) → unwrap_or (get_by_text new asked) none ≡ unwrap_or (get_by_text old asked) none
@@ -147,9 +147,9 @@ pub live_by_place : (row : Row) (rows : List Row) (place : Option ℕ) → place
     → is_live_at rows place ≡ is_no_delete (last_row row.id.key (key_text row.version) rows)
 live_by_place row rows place there = ap (is_live_at rows) there ∙ ap is_no_delete (row_there row.id.key (key_text row.version) rows)
 
--- what is told of an id stays right with a row of another
-told_other : (asked : List ℕ) (rows : List Row) (row : Row) (told : Option OfId) → bytes_eq row.id.key asked ≡ false → IsTold asked rows told → IsTold asked (rows ++ row ∷ []) told
-told_other asked rows row told apart is =
+-- what is noted of an id stays right with a row of another
+noted_other : (asked : List ℕ) (rows : List Row) (row : Row) (noted : Option OfId) → bytes_eq row.id.key asked ≡ false → IsNoted asked rows noted → IsNoted asked (rows ++ row ∷ []) noted
+noted_other asked rows row noted apart is =
     let other : bytes_eq asked row.id.key ≡ false = bytes_eq-turned asked row.id.key ∙ apart in
     record {
       places = λ version. is.places version
@@ -161,12 +161,12 @@ told_other asked rows row told apart is =
           is.live ∙ omega (arith, law);
     }
 
--- the new table tells this of the id with this key, of which the old one told that, and the same of the others
+-- the new table notes this of the id with this key, of which the old one noted that, and the same of the others
 pub record Changes (key : List ℕ) (was : Option OfId) (of_id : OfId) (old new : Latest) : Type 0 where
   pub before : get_by_text old.ids key ≡ was
   pub after : (asked : List ℕ) → get_by_text new.ids asked ≡ (if bytes_eq key asked then Some of_id else get_by_text old.ids asked)
 
--- by a write to what is told of an id
+-- by a write to what is noted of an id
 pub change_written : (key text : List ℕ) (was of_id : OfId) (old new : Latest) → text ≡ key → Some was ≡ get_by_text old.ids text
     → WritesThrough string_cmp (λ k. slice_cmp nat_cmp text (string_bytes k)) old.ids of_id new.ids → Changes key (Some was) of_id old new
 change_written key text was of_id old new is found writes =
@@ -184,50 +184,50 @@ change_new key text given of_id old between new is copied none same updates =
       after = λ asked. btree_map_updates_text given between.ids new.ids (Some of_id) updates asked ∙ ap (λ m. if bytes_eq given asked then Some of_id else get_by_text m asked) same;
     }
 
--- a fact of what is told of each id
+-- a fact of what is noted of each id
 by_own : (P : List ℕ → Option OfId → Type 0) (own : Bool) (key asked : List ℕ) (of_id : OfId) (before : Option OfId) → bytes_eq key asked ≡ own
     → P key (Some of_id) → (bytes_eq key asked ≡ false → P asked before) → P asked (if own then Some of_id else before)
 by_own P true key asked of_id before is own other = subst (λ (k : List ℕ). P k (Some of_id)) (bytes_eq-true key asked is) own
 by_own P false key asked of_id before is own other = other is
 
-told_all : (P : List ℕ → Option OfId → Type 0) (key asked : List ℕ) (was : Option OfId) (of_id : OfId) (old new : Latest) → Changes key was of_id old new
+noted_all : (P : List ℕ → Option OfId → Type 0) (key asked : List ℕ) (was : Option OfId) (of_id : OfId) (old new : Latest) → Changes key was of_id old new
     → P key (Some of_id) → (bytes_eq key asked ≡ false → P asked (get_by_text old.ids asked)) → P asked (get_by_text new.ids asked)
-told_all P key asked was of_id old new changes own other =
+noted_all P key asked was of_id old new changes own other =
     subst (P asked) (sym (changes.after asked)) (by_own P (bytes_eq key asked) key asked of_id (get_by_text old.ids asked) refl own other)
 
 -- the table with one row more
 pub latest_more : (rows : List Row) (row : Row) (was : Option OfId) (of_id : OfId) (old new : Latest) → Changes row.id.key was of_id old new
-    → (IsTold row.id.key rows was → IsTold row.id.key (rows ++ row ∷ []) (Some of_id)) → IsLatestOf rows old → IsLatestOf (rows ++ row ∷ []) new
+    → (IsNoted row.id.key rows was → IsNoted row.id.key (rows ++ row ∷ []) (Some of_id)) → IsLatestOf rows old → IsLatestOf (rows ++ row ∷ []) new
 latest_more rows row was of_id old new changes step latest = record {
-  each = λ asked. told_all (λ id found. IsTold id (rows ++ row ∷ []) found) row.id.key asked was of_id old new changes
-      (step (subst (IsTold row.id.key rows) changes.before (latest.each row.id.key)))
-      (λ apart. told_other asked rows row _ apart (latest.each asked));
+  each = λ asked. noted_all (λ id found. IsNoted id (rows ++ row ∷ []) found) row.id.key asked was of_id old new changes
+      (step (subst (IsNoted row.id.key rows) changes.before (latest.each row.id.key)))
+      (λ apart. noted_other asked rows row _ apart (latest.each asked));
 }
 
-pub told_same : (id : List ℕ) (rows : List Row) (old new : Option OfId) → TellsSame old new → IsTold id rows old → IsTold id rows new
-told_same id rows old new same is = record { places = λ version. same.places version ∙ is.places version; live = same.live ∙ is.live }
+pub noted_same : (id : List ℕ) (rows : List Row) (old new : Option OfId) → NotesSame old new → IsNoted id rows old → IsNoted id rows new
+noted_same id rows old new same is = record { places = λ version. same.places version ∙ is.places version; live = same.live ∙ is.live }
 
--- what is listed leaves what is told
-pub latest_same : (key : List ℕ) (was : Option OfId) (of_id : OfId) (old new : Latest) → Changes key was of_id old new → TellsSame was (Some of_id)
+-- entering a version leaves what is noted
+pub latest_same : (key : List ℕ) (was : Option OfId) (of_id : OfId) (old new : Latest) → Changes key was of_id old new → NotesSame was (Some of_id)
     → (rows : List Row) → IsLatestOf rows old → IsLatestOf rows new
 latest_same key was of_id old new changes same rows latest = record {
-  each = λ asked. told_all (λ id found. IsTold id rows found) key asked was of_id old new changes
-      (told_same key rows was (Some of_id) same (subst (IsTold key rows) changes.before (latest.each key)))
+  each = λ asked. noted_all (λ id found. IsNoted id rows found) key asked was of_id old new changes
+      (noted_same key rows was (Some of_id) same (subst (IsNoted key rows) changes.before (latest.each key)))
       (λ apart. latest.each asked);
 }
 
--- what is listed stays so
-pub listed_still : (key : List ℕ) (was : Option OfId) (of_id : OfId) (old new : Latest) → Changes key was of_id old new → KeepsListed was (Some of_id)
-    → (other : Row) → IsListed old other → IsListed new other
-listed_still key was of_id old new changes keeps other =
-    told_all (λ id found. IsSome (listed_for (get_by_text old.ids id) (key_text other.version)) → IsSome (listed_for found (key_text other.version)))
+-- the versions that were entered still are
+pub entered_still : (key : List ℕ) (was : Option OfId) (of_id : OfId) (old new : Latest) → Changes key was of_id old new → KeepsEntered was (Some of_id)
+    → (other : Row) → IsEntered old other → IsEntered new other
+entered_still key was of_id old new changes keeps other =
+    noted_all (λ id found. IsSome (entered_for (get_by_text old.ids id) (key_text other.version)) → IsSome (entered_for found (key_text other.version)))
     key other.id.key was of_id old new changes
-    (subst (λ (o : Option OfId). IsSome (listed_for o (key_text other.version)) → IsSome (listed_for (Some of_id) (key_text other.version))) (sym changes.before) (keeps (key_text other.version)))
+    (subst (λ (o : Option OfId). IsSome (entered_for o (key_text other.version)) → IsSome (entered_for (Some of_id) (key_text other.version))) (sym changes.before) (keeps (key_text other.version)))
     (λ apart is. is)
 
 -- and so does all where the entries stay
 pub latest_kept : (old new : Latest) → new.ids.entries ≡ old.ids.entries → (rows : List Row) → IsLatestOf rows old → IsLatestOf rows new
-latest_kept old new same rows latest = record { each = λ asked. subst (λ es. IsTold asked rows (lookup (is_at (text_cmp asked)) es)) (sym same) (latest.each asked) }
+latest_kept old new same rows latest = record { each = λ asked. subst (λ es. IsNoted asked rows (lookup (is_at (text_cmp asked)) es)) (sym same) (latest.each asked) }
 
-pub same_then : (first second third : Option OfId) → TellsSame first second → TellsSame second third → TellsSame first third
+pub same_then : (first second third : Option OfId) → NotesSame first second → NotesSame second third → NotesSame first third
 same_then first second third one two = record { places = λ version. two.places version ∙ one.places version; live = two.live ∙ one.live }

@@ -15,52 +15,52 @@ abbrev pub last_place : (Row → Bool) → List Row → Option ℕ
 last_place test [] = None
 last_place test (row ∷ rows) = option_or (option_map suc (last_place test rows)) (if test row then Some 0 else None)
 
--- what stands for a version in what is told of an id, where the id is told of and the version listed there
-abbrev pub listed_for : Option OfId → List ℕ → Option (Option ℕ)
-listed_for told version = option_and_then (λ of_id. get_by_text of_id.places version) told
+-- what stands for a version in what is noted of its id, if the version is entered there
+abbrev pub entered_for : Option OfId → List ℕ → Option (Option ℕ)
+entered_for noted version = option_and_then (λ of_id. get_by_text of_id.places version) noted
 
--- the place that is told of a version, none where it isn't listed
-abbrev pub place_told : Option OfId → List ℕ → Option ℕ
-place_told told version = unwrap_or (listed_for told version) None
+-- the place that is noted of a version, none where it isn't entered
+abbrev pub place_noted : Option OfId → List ℕ → Option ℕ
+place_noted noted version = unwrap_or (entered_for noted version) None
 
--- the number of live versions that is told
-abbrev pub live_told : Option OfId → ℕ
-live_told told = option_map_or (λ of_id. of_id.live) told 0
+-- the number of live versions that is noted
+abbrev pub live_noted : Option OfId → ℕ
+live_noted noted = option_map_or (λ of_id. of_id.live) noted 0
 
--- of the id with this key are told the place of the last row of each version, and the number of its live versions
-pub record IsTold (id : List ℕ) (rows : List Row) (told : Option OfId) : Type 0 where
-  pub places : (version : List ℕ) → place_told told version ≡ last_place (is_of_keys id version) rows
-  pub live : live_told told ≡ live_rows id rows
+-- this is noted of the id with this key: the place of the last row of each version, and the number of live versions
+pub record IsNoted (id : List ℕ) (rows : List Row) (noted : Option OfId) : Type 0 where
+  pub places : (version : List ℕ) → place_noted noted version ≡ last_place (is_of_keys id version) rows
+  pub live : live_noted noted ≡ live_rows id rows
 
--- so it is of each id
+-- so it is for each id
 pub record IsLatestOf (rows : List Row) (latest : Latest) : Type 0 where
-  pub each : (id : List ℕ) → IsTold id rows (get_by_text latest.ids id)
+  pub each : (id : List ℕ) → IsNoted id rows (get_by_text latest.ids id)
 
--- whether the row at this place, where one is told, is there and no delete
+-- whether the row at this place, if one is given, is there and no delete
 abbrev pub is_live_at : List Row → Option ℕ → Bool
 is_live_at rows place = is_no_delete (option_and_then (slice_get rows) place)
 
--- what is listed stays so
-abbrev pub KeepsListed : Option OfId → Option OfId → Type 0
-KeepsListed old new = (version : List ℕ) → IsSome (listed_for old version) → IsSome (listed_for new version)
+-- the versions that were entered still are
+abbrev pub KeepsEntered : Option OfId → Option OfId → Type 0
+KeepsEntered old new = (version : List ℕ) → IsSome (entered_for old version) → IsSome (entered_for new version)
 
--- the same places and the same number are told, whatever is listed
-pub record TellsSame (old new : Option OfId) : Type 0 where
-  pub places : (version : List ℕ) → place_told new version ≡ place_told old version
-  pub live : live_told new ≡ live_told old
+-- the same places and the same number are noted, whatever is entered
+pub record NotesSame (old new : Option OfId) : Type 0 where
+  pub places : (version : List ℕ) → place_noted new version ≡ place_noted old version
+  pub live : live_noted new ≡ live_noted old
 
--- the table lists the row's version
-abbrev pub IsListed : Latest → Row → Type 0
-IsListed latest row = IsSome (listed_for (get_by_text latest.ids row.id.key) (key_text row.version))
+-- the row's version is entered
+abbrev pub IsEntered : Latest → Row → Type 0
+IsEntered latest row = IsSome (entered_for (get_by_text latest.ids row.id.key) (key_text row.version))
 
 -- the keys of the rows' versions, in order
 abbrev pub AreKeysOf : {Y : Type 0} → List (String Y) → List Row → Type 0
 AreKeysOf keys rows = map string_bytes keys ≡ map (λ row. key_text row.version) rows
 
--- the rows' versions have these keys, and the table lists them
+-- the rows' versions have these keys, and are entered
 pub record AreReady (latest : Latest) (new : NewRows) : Type 0 where
   pub keys : AreKeysOf new.keys.items new.rows.items
-  pub listed : All (IsListed latest) new.rows.items
+  pub entered : All (IsEntered latest) new.rows.items
 
 -- the rows that are reserved, if any are
 abbrev pub rows_in : Option NewRows → List Row

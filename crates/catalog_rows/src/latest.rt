@@ -5,14 +5,14 @@ ghost use Rattle.std.specs.BTreeMap.{get_by_text};
 ghost use Rattle.std.specs.List.{All};
 ghost use Rattle.nuget_version.specs.Printed.{key_text};
 ghost use Rattle.catalog_doc.specs.declared.row.Row.{Row};
-ghost use Rattle.catalog_rows.specs.Latest.{AreKeysOf, IsLatestOf, IsListed, IsTold, KeepsListed, TellsSame, is_live_at, live_told, place_told};
+ghost use Rattle.catalog_rows.specs.Latest.{AreKeysOf, IsLatestOf, IsEntered, IsNoted, KeepsEntered, NotesSame, is_live_at, live_noted, place_noted};
 
 use catalog_doc::Row;
 use pkg_meta::{NoMemory, PackageId, Version};
 use std::alloc::Global;
 use std::collections::BTreeMap;
 
-/// What is told of an id: where the last row of each of its versions stands, and how many of them are live.
+/// What is noted of an id: where the last row of each of its versions stands, and how many of them are live.
 #[derive(Drop)]
 pub(crate) struct OfId {
     // By the key of the version; it has no place while it has no row.
@@ -20,15 +20,14 @@ pub(crate) struct OfId {
     pub(crate) live: usize,
 }
 
-/// What is told of each id, by the id's key.
-///
-/// Versions can be listed before they have rows, so that their rows are noted without memory.
+/// What is noted of each id, by the id's key. Versions can be entered before they have rows, so that their
+/// rows are noted without memory.
 #[derive(Drop)]
 pub(crate) struct Latest {
     pub(crate) ids: BTreeMap<String, OfId>,
 }
 
-// Whether the row at this place, where one is told, is there and no delete.
+// Whether the row at this place, if one is given, is there and no delete.
 fn is_live_at(rows: &[Row], place: Option<usize>) -> bool
     ensures { result ≡ is_live_at rows.now place }
 {
@@ -53,7 +52,7 @@ fn count_with(count: usize, live: bool, gone: bool) -> usize
 
 impl OfId {
     fn new(alloc: Global) -> Self
-        ensures { TellsSame None (Some result) }
+        ensures { NotesSame None (Some result) }
     {
         OfId {
             places: BTreeMap::new(alloc),
@@ -63,16 +62,16 @@ impl OfId {
 
     // The place of the last row of the version with this key.
     fn place(&self, version: &str) -> Option<usize>
-        ensures { result ≡ place_told (Some self.now) version.now }
+        ensures { result ≡ place_noted (Some self.now) version.now }
     {
         self.places.get(version).copied().unwrap_or(None)
     }
 
-    // Lists a version, which has no place where it wasn't listed yet.
-    fn list(&mut self, alloc: Global, version: &str) -> Result<(), NoMemory>
-        ensures listed { OnOk result (IsSome (get_by_text self.new.places version.now)) }
-        ensures keeps { KeepsListed (Some self.old) (Some self.new) }
-        ensures same { TellsSame (Some self.old) (Some self.new) }
+    // Enters a version, without a place where it is new.
+    fn enter(&mut self, alloc: Global, version: &str) -> Result<(), NoMemory>
+        ensures entered { OnOk result (IsSome (get_by_text self.new.places version.now)) }
+        ensures keeps { KeepsEntered (Some self.old) (Some self.new) }
+        ensures same { NotesSame (Some self.old) (Some self.new) }
     {
         if !self.places.contains_key(version) {
             self.places.insert(String::from_str(alloc, version)?, None)?;
@@ -80,13 +79,13 @@ impl OfId {
         Ok(())
     }
 
-    // Takes in a row of this id behind others.
+    // Notes a row of this id behind others.
     fn note(&mut self, version: String, earlier: &[Row], row: &Row) -> Result<(), NoMemory>
         requires { string_bytes version ≡ key_text row.now.version }
-        ensures ok { OnOk result (IsTold row.now.id.key earlier.now (Some self.old)
-            → IsTold row.now.id.key (earlier.now ++ row.now ∷ []) (Some self.new)) }
-        ensures listed { IsSome (get_by_text self.old.places (string_bytes version)) → IsOk result }
-        ensures keeps { KeepsListed (Some self.old) (Some self.new) }
+        ensures ok { OnOk result (IsNoted row.now.id.key earlier.now (Some self.old)
+            → IsNoted row.now.id.key (earlier.now ++ row.now ∷ []) (Some self.new)) }
+        ensures entered { IsSome (get_by_text self.old.places (string_bytes version)) → IsOk result }
+        ensures keeps { KeepsEntered (Some self.old) (Some self.new) }
     {
         let place = self.places.insert(version, Some(earlier.len()))?;
         let was_live = is_live_at(earlier, place.unwrap_or(None));
@@ -111,7 +110,7 @@ impl Latest {
         id: &PackageId,
         version: &Version,
     ) -> Result<Option<usize>, NoMemory>
-        ensures { IfOk result (λ found. found ≡ place_told (get_by_text self.now.ids id.now.key) (key_text version.now)) }
+        ensures { IfOk result (λ found. found ≡ place_noted (get_by_text self.now.ids id.now.key) (key_text version.now)) }
     {
         let Some(of_id) = self.ids.get(id.key.as_str()) else {
             return Ok(None);
@@ -122,7 +121,7 @@ impl Latest {
 
     /// How many live versions the id with this key has.
     pub(crate) fn count(&self, id: &str) -> usize
-        ensures { result ≡ live_told (get_by_text self.now.ids id.now) }
+        ensures { result ≡ live_noted (get_by_text self.now.ids id.now) }
     {
         match self.ids.get(id) {
             Some(of_id) => of_id.live,
@@ -130,42 +129,42 @@ impl Latest {
         }
     }
 
-    // Lists the version of a row, whose key is given.
-    fn list(&mut self, alloc: Global, row: &Row, version: &str) -> Result<(), NoMemory>
+    // Enters the version of a row, whose key is given.
+    fn enter(&mut self, alloc: Global, row: &Row, version: &str) -> Result<(), NoMemory>
         requires { version.now ≡ key_text row.now.version }
-        ensures listed { OnOk result (IsListed self.new row.now) }
-        ensures keeps { (other : Row) → IsListed self.old other → IsListed self.new other }
+        ensures entered { OnOk result (IsEntered self.new row.now) }
+        ensures keeps { (other : Row) → IsEntered self.old other → IsEntered self.new other }
         ensures same { (rows : List Row) → IsLatestOf rows self.old → IsLatestOf rows self.new }
     {
         let id = row.id.key.as_str();
         match self.ids.get_mut(id) {
-            Some(of_id) => of_id.list(alloc, version),
+            Some(of_id) => of_id.enter(alloc, version),
             None => {
                 let mut of_id = OfId::new(alloc);
-                of_id.list(alloc, version)?;
+                of_id.enter(alloc, version)?;
                 self.ids.insert(String::from_str(alloc, id)?, of_id)?;
                 Ok(())
             }
         }
     }
 
-    /// Lists the versions of rows, and gives their keys.
-    pub(crate) fn list_all(&mut self, alloc: Global, rows: &[Row]) -> Result<Vec<String>, NoMemory>
+    /// Enters the versions of rows, and gives their keys.
+    pub(crate) fn enter_all(&mut self, alloc: Global, rows: &[Row]) -> Result<Vec<String>, NoMemory>
         ensures keys { IfOk result (λ keys. AreKeysOf keys.items rows.now) }
-        ensures listed { OnOk result (All (IsListed self.new) rows.now) }
-        ensures keeps { (other : Row) → IsListed self.old other → IsListed self.new other }
+        ensures entered { OnOk result (All (IsEntered self.new) rows.now) }
+        ensures keeps { (other : Row) → IsEntered self.old other → IsEntered self.new other }
         ensures same { (rows : List Row) → IsLatestOf rows self.old → IsLatestOf rows self.new }
     {
         let mut keys = Vec::new(alloc);
         for row in rows {
             let key = row.version.key(alloc)?.into_string();
-            self.list(alloc, row, key.as_str())?;
+            self.enter(alloc, row, key.as_str())?;
             keys.push(key)?;
         }
         Ok(keys)
     }
 
-    /// Takes in a row behind others.
+    /// Notes a row behind others.
     pub(crate) fn note(&mut self, alloc: Global, earlier: &[Row], row: &Row) -> Result<(), NoMemory>
         ensures { OnOk result (IsLatestOf earlier.now self.old → IsLatestOf (earlier.now ++ row.now ∷ []) self.new) }
     {
@@ -182,12 +181,12 @@ impl Latest {
         }
     }
 
-    // Takes in a row behind others, whose version is listed under this key.
-    fn note_listed(&mut self, version: String, earlier: &[Row], row: &Row)
+    // Notes a row behind others, whose version is entered under this key.
+    fn note_entered(&mut self, version: String, earlier: &[Row], row: &Row)
         requires version { string_bytes version ≡ key_text row.now.version }
-        requires listed { IsListed self.old row.now }
+        requires entered { IsEntered self.old row.now }
         ensures latest { IsLatestOf earlier.now self.old → IsLatestOf (earlier.now ++ row.now ∷ []) self.new }
-        ensures keeps { (other : Row) → IsListed self.old other → IsListed self.new other }
+        ensures keeps { (other : Row) → IsEntered self.old other → IsEntered self.new other }
     {
         let Some(of_id) = self.ids.get_mut(row.id.key.as_str()) else {
             unreachable!()
@@ -198,16 +197,16 @@ impl Latest {
         }
     }
 
-    /// Takes in the rows from `first` on, whose versions are listed under these keys.
+    /// Notes the rows from `first` on, whose versions are entered under these keys.
     pub(crate) fn note_all(&mut self, keys: Vec<String>, rows: &[Row], first: usize)
         requires within { first ≤ length rows.now }
         requires keys { AreKeysOf keys.items (drop first rows.now) }
-        requires listed { All (IsListed self.old) (drop first rows.now) }
+        requires entered { All (IsEntered self.old) (drop first rows.now) }
         ensures { IsLatestOf (take first rows.now) self.old → IsLatestOf rows.now self.new }
     {
         let mut at = first;
         for key in keys {
-            self.note_listed(key, &rows[..at], &rows[at]);
+            self.note_entered(key, &rows[..at], &rows[at]);
             at += 1;
         }
     }

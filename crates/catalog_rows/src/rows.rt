@@ -166,7 +166,7 @@ impl Rows {
         ensures reserved { OnOk result (self.new.reserved ≡ rows) }
         ensures err { OnErr result (self.new ≡ self.old) }
     {
-        let keys = self.latest.list_all(alloc, rows.as_slice())?;
+        let keys = self.latest.enter_all(alloc, rows.as_slice())?;
         self.pages.reserve(1)?;
         self.rows.reserve(rows.len())?;
         let rows = rows.into_vec();

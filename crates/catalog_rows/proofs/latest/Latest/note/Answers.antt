@@ -1,7 +1,7 @@
 use Rattle.std.proofs.Common.{None, Some}
 use Rattle.std.specs.Prelude.{string_bytes}
 use Rattle.std.proofs.lemmas.Result.{on_ok_weaker}
-use Rattle.catalog_rows.proofs.Table.{change_new, change_written, latest_more, told_same}
+use Rattle.catalog_rows.proofs.Table.{change_new, change_written, latest_more, noted_same}
 use Rattle.catalog_rows.proofs.latest.Latest.note.Goals as goal
 
 pub returns-in-Some : goal.returns-in-Some
@@ -19,4 +19,4 @@ returns-in_ok-insert-in-None c =
     (record { ids = c.get_mut.follows.lender-at-none }) (record { ids = c.insert.new.self }) c.as_str-id.ensures c.in_ok-from_str-in-None.ensures.ok c.in-None.ensures.value
     c.get_mut.follows.holds-at-none c.in_ok-insert-in-None.ensures.updates in
     latest_more c.args.earlier.now c.args.row.now None c.note-in-None.new.self c.args.self.now (record { ids = c.insert.new.self }) change
-    (λ is. c.in_ok-note-in-None.ensures.ok (told_same c.args.row.now.id.key c.args.earlier.now None (Some c.new-of_id.result) c.new-of_id.ensures is))
+    (λ is. c.in_ok-note-in-None.ensures.ok (noted_same c.args.row.now.id.key c.args.earlier.now None (Some c.new-of_id.result) c.new-of_id.ensures is))

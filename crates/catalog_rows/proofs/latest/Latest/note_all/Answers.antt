@@ -4,12 +4,12 @@ use Rattle.std.proofs.lemmas.Iterator.Consumers.{YieldsList-end, YieldsList-turn
 use Rattle.std.proofs.lemmas.List.{get_or-drop, length-take-le, take_all, take_more}
 use Rattle.std.proofs.lemmas.List.Elements.{All-weaker}
 use Rattle.catalog_doc.specs.declared.row.Row.{Row}
-use Rattle.catalog_rows.specs.Latest.{IsLatestOf, IsListed}
+use Rattle.catalog_rows.specs.Latest.{IsLatestOf, IsEntered}
 use Rattle.catalog_rows.proofs.Keys.{as_many, key_at, within_rows}
 use Rattle.catalog_rows.proofs.latest.Latest.note_all.Goals as goal
 
-pub slice_bounds-note_listed-end : goal.slice_bounds-note_listed-end
-slice_bounds-note_listed-end c =
+pub slice_bounds-note_entered-end : goal.slice_bounds-note_entered-end
+slice_bounds-note_entered-end c =
     let turn = YieldsList-turn (YieldsList-from_vec {s = c.into_iter-key-iterator.result} c.args.keys.items (search rules) (search rules))
     c.loop-key.yielded c.loop-key.key-iterator c.loop-key.yielded_by c.next.result c.next.new.self c.in-Some.key c.in-Some.is c.next.ensures.steps in
     let within = within_rows c.args.keys.items c.args.rows.now c.args.first (length c.loop-key.yielded) c.loop-key.at c.requires.keys c.requires.within turn.0 c.loop-key.invariant.at in
@@ -21,23 +21,23 @@ bounds-rows-at c =
     c.loop-key.yielded c.loop-key.key-iterator c.loop-key.yielded_by c.next.result c.next.new.self c.in-Some.key c.in-Some.is c.next.ensures.steps in
     within_rows c.args.keys.items c.args.rows.now c.args.first (length c.loop-key.yielded) c.loop-key.at c.requires.keys c.requires.within turn.0 c.loop-key.invariant.at
 
-pub note_listed-requires-clause-version : goal.note_listed-requires-clause-version
-note_listed-requires-clause-version c =
+pub note_entered-requires-clause-version : goal.note_entered-requires-clause-version
+note_entered-requires-clause-version c =
     let turn = YieldsList-turn (YieldsList-from_vec {s = c.into_iter-key-iterator.result} c.args.keys.items (search rules) (search rules))
     c.loop-key.yielded c.loop-key.key-iterator c.loop-key.yielded_by c.next.result c.next.new.self c.in-Some.key c.in-Some.is c.next.ensures.steps in
     let row = c.index-rows-at.result in
     key_at c.args.keys.items c.args.rows.now c.args.first (length c.loop-key.yielded) c.in-Some.key row c.requires.keys turn.0 turn.1
     (c.index-rows-at.is ∙ ap (λ n. get_or c.args.rows.now n row) c.loop-key.invariant.at)
 
-pub note_listed-requires-clause-listed : goal.note_listed-requires-clause-listed
-note_listed-requires-clause-listed c =
+pub note_entered-requires-clause-entered : goal.note_entered-requires-clause-entered
+note_entered-requires-clause-entered c =
     let turn = YieldsList-turn (YieldsList-from_vec {s = c.into_iter-key-iterator.result} c.args.keys.items (search rules) (search rules))
     c.loop-key.yielded c.loop-key.key-iterator c.loop-key.yielded_by c.next.result c.next.new.self c.in-Some.key c.in-Some.is c.next.ensures.steps in
     let row = c.index-rows-at.result in
     let many = as_many c.args.keys.items (drop c.args.first c.args.rows.now) c.requires.keys in
-    subst (IsListed c.loop-key.self)
+    subst (IsEntered c.loop-key.self)
     (get_or-drop c.args.first c.args.rows.now (length c.loop-key.yielded) row ∙ ap (λ n. get_or c.args.rows.now n row) (sym c.loop-key.invariant.at) ∙ sym c.index-rows-at.is)
-    (c.loop-key.invariant.listed (length c.loop-key.yielded) row (omega (arith, turn.0, many)))
+    (c.loop-key.invariant.entered (length c.loop-key.yielded) row (omega (arith, turn.0, many)))
 
 pub loop-key-preserved : goal.loop-key-preserved
 loop-key-preserved c =
@@ -51,10 +51,10 @@ loop-key-preserved c =
       next = tt;
       finite = tt;
       at = omega (arith, was.at, length-append c.loop-key.yielded (c.in-Some.key ∷ []));
-      latest = λ is. subst (λ (l : List Row). IsLatestOf l c.note_listed.new.self)
+      latest = λ is. subst (λ (l : List Row). IsLatestOf l c.note_entered.new.self)
           (ap (λ (r : Row). take c.loop-key.at rows ++ r ∷ []) c.index-rows-at.is ∙ sym (take_more rows c.loop-key.at row within))
-          (c.note_listed.ensures.latest (was.latest is));
-      listed = All-weaker (IsListed c.loop-key.self) (IsListed c.note_listed.new.self) c.note_listed.ensures.keeps (drop c.args.first rows) was.listed;
+          (c.note_entered.ensures.latest (was.latest is));
+      entered = All-weaker (IsEntered c.loop-key.self) (IsEntered c.note_entered.new.self) c.note_entered.ensures.keeps (drop c.args.first rows) was.entered;
     }
 
 pub returns : goal.returns

@@ -1,6 +1,6 @@
 use Rattle.std.proofs.Common.{Some}
-use Rattle.catalog_rows.proofs.Table.{change_written, latest_more, listed_still}
-use Rattle.catalog_rows.proofs.latest.Latest.note_listed.Goals as goal
+use Rattle.catalog_rows.proofs.Table.{change_written, latest_more, entered_still}
+use Rattle.catalog_rows.proofs.latest.Latest.note_entered.Goals as goal
 
 pub returns-clause-latest : goal.returns-clause-latest
 returns-clause-latest c =
@@ -14,4 +14,4 @@ returns-clause-keeps c =
     let of_id = c.note.new.self in
     let change = change_written c.args.row.now.id.key c.as_str.result.now c.in-Some.of_id.now of_id c.args.self.now (record { ids = c.get_mut.follows.lender of_id })
     c.as_str.ensures c.in-Some.ensures.value (c.get_mut.follows.holds of_id) in
-    listed_still c.args.row.now.id.key (Some c.in-Some.of_id.now) of_id c.args.self.now (record { ids = c.get_mut.follows.lender of_id }) change c.note.ensures.keeps
+    entered_still c.args.row.now.id.key (Some c.in-Some.of_id.now) of_id c.args.self.now (record { ids = c.get_mut.follows.lender of_id }) change c.note.ensures.keeps

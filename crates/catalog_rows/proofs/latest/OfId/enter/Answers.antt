@@ -2,7 +2,7 @@ use Rattle.std.proofs.Common.{◌≡◌, ◌∙◌, None, ap, refl, sym}
 use Rattle.std.specs.Prelude.{string_bytes}
 use Rattle.std.specs.BTreeMap.{get_by_text}
 use Rattle.catalog_rows.proofs.Table.{key_new, keys_stay, not_some}
-use Rattle.catalog_rows.proofs.latest.OfId.list.Goals as goal
+use Rattle.catalog_rows.proofs.latest.OfId.enter.Goals as goal
 
 pub returns-in_ok-insert-clause-keeps : goal.returns-in_ok-insert-clause-keeps
 returns-in_ok-insert-clause-keeps c =
