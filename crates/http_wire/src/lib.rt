@@ -19,6 +19,7 @@ mod response;
 mod scan;
 mod wire;
 mod wire_in;
+mod wire_out;
 
 pub use laws::{leads_on, one_answer, one_talk, refusals_have_statuses, requests_stand, talk_on};
 pub use nuget_version::{Bytes, NoMemory, Text};
@@ -26,3 +27,4 @@ pub use reading::read_request;
 pub use request::{Request, WireErr};
 pub use response::{Kind, Verb, response_bytes};
 pub use wire::WireIn;
+pub use wire_out::WireOut;

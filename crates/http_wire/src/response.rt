@@ -52,8 +52,8 @@ impl Verb {
     }
 }
 
-// More than the bytes of a head.
-const HEAD_ROOM: usize = 256;
+/// More than the bytes of a head.
+pub(crate) const HEAD_ROOM: usize = 256;
 
 // The status, which has a phrase.
 fn code_of(status: u16) -> StatusCode
@@ -107,6 +107,26 @@ fn push_type(out: &mut String, kind: Kind, body: &[u8]) -> Result<(), AllocError
     }
 }
 
+/// Writes the head of a response: all but its body.
+pub(crate) fn push_head(
+    out: &mut String,
+    status: u16,
+    kind: Kind,
+    allow: Option<Verb>,
+    last: bool,
+    body: &[u8],
+) -> Result<(), AllocError>
+    requires { IsSome (reason_phrase status) }
+    ensures { OnOk result (string_bytes out.new ++ body.now ≡ string_bytes out.old ++ wire_bytes status kind allow last body.now) }
+{
+    push_status(out, status)?;
+    push_close(out, last)?;
+    push_allow(out, allow)?;
+    push_length(out, body.len())?;
+    push_type(out, kind, body)?;
+    out.push_str("\r\n")
+}
+
 /// The bytes of a response (RFC 9112, section 6.3), with the methods that its target has where the status is
 /// 405 (RFC 9110, section 15.5.6).
 pub fn response_bytes(
@@ -122,12 +142,7 @@ pub fn response_bytes(
     ensures { IfOk result (λ bytes. bytes ≡ wire_bytes status kind allow last body.now) }
 {
     let mut head = String::with_capacity(alloc, HEAD_ROOM + body.len())?;
-    push_status(&mut head, status)?;
-    push_close(&mut head, last)?;
-    push_allow(&mut head, allow)?;
-    push_length(&mut head, body.len())?;
-    push_type(&mut head, kind, body)?;
-    head.push_str("\r\n")?;
+    push_head(&mut head, status, kind, allow, last, body)?;
     let mut bytes = head.into_bytes();
     bytes.extend_from_slice(body)?;
     Ok(Bytes::of(bytes))
