@@ -1,6 +1,6 @@
 // The bytes of responses.
 use feed_base::Bytes;
-use http_wire::{Kind, Verb, response_bytes};
+use http_wire::{Kind, Verb, WireOut, response_bytes};
 use std::process::Abort;
 use std::str;
 use std::test::Fail;
@@ -69,5 +69,22 @@ fn writes_the_ends_of_links(rt: HostRuntime) -> Result<(), Fail> {
         &response_bytes(alloc, 431, Kind::Plain, None, true, b"")?,
         "HTTP/1.1 431 Request Header Fields Too Large\r\nConnection: close\r\nContent-Length: 0\r\n\r\n",
     );
+    Ok(())
+}
+
+#[test]
+fn writes_responses_in_one_buffer(rt: HostRuntime) -> Result<(), Fail> {
+    let alloc = rt.alloc();
+    let mut out = WireOut::new(alloc);
+    assert!(rt; out.as_slice().is_empty());
+    let long = vec![in alloc; 7u8; 100_000]?;
+    out.make(200, Kind::Octets, None, false, &long)?;
+    assert_eq!(rt; out.as_slice().len(), 100_083);
+    out.clear();
+    assert!(rt; out.as_slice().is_empty());
+    out.make(507, Kind::Plain, None, false, b"memory\n")?;
+    out.make(404, Kind::Plain, None, true, b"")?;
+    let want: &[u8] = b"HTTP/1.1 404 Not Found\r\nConnection: close\r\nContent-Length: 0\r\n\r\n";
+    assert_eq!(rt; out.as_slice(), want);
     Ok(())
 }
