@@ -3,8 +3,8 @@ ghost use Rattle.std.specs.Prelude.{◌↔◌, IfOk, IsTrue};
 ghost use Rattle.feed_routes.specs.Names.{IsContentRest, IsRegistrationRest};
 
 use crate::content_names::is_content_tail;
+use crate::id_keys::is_id_key;
 use crate::registration_names::is_registration_tail;
-use crate::segments::is_id_key;
 use crate::split::at_slash;
 use nuget_version::NoMemory;
 use std::alloc::Global;
@@ -16,7 +16,7 @@ pub(crate) fn is_registration_rest(alloc: Global, rest: &str) -> Result<bool, No
     let Some((id, tail)) = at_slash(rest) else {
         return Ok(false);
     };
-    if is_id_key(alloc, id)? {
+    if is_id_key(id) {
         is_registration_tail(alloc, tail)
     } else {
         Ok(false)
@@ -30,7 +30,7 @@ pub(crate) fn is_content_rest(alloc: Global, rest: &str) -> Result<bool, NoMemor
     let Some((id, tail)) = at_slash(rest) else {
         return Ok(false);
     };
-    if is_id_key(alloc, id)? {
+    if is_id_key(id) {
         is_content_tail(alloc, id, tail)
     } else {
         Ok(false)

@@ -8,6 +8,7 @@ mod bases;
 mod catalog_names;
 mod content_names;
 mod hives;
+mod id_keys;
 mod ids;
 mod index;
 mod laws;

@@ -3,10 +3,9 @@ ghost use Rattle.std.specs.Prelude.{◌≡◌, ◌↔◌, ◌⊎◌, ◌++◌, c
 ghost use Rattle.std.specs.List.{list_all};
 ghost use Rattle.std.specs.Char.{is_ascii_digit};
 ghost use Rattle.nuget_version.specs.Printed.{key_text};
-ghost use Rattle.feed_routes.specs.Segments.{IsIdKey, IsNumber, IsVersionKey};
+ghost use Rattle.feed_routes.specs.Segments.{IsNumber, IsVersionKey};
 
 use nuget_version::{NoMemory, Version};
-use package_id::PackageId;
 use std::alloc::Global;
 
 fn are_digits(text: &[u8]) -> bool
@@ -23,16 +22,6 @@ pub(crate) fn is_number(text: &str) -> bool
         [] => false,
         [b'0', rest @ ..] => rest.is_empty(),
         digits => are_digits(digits),
-    }
-}
-
-// Whether the text is an id and its own key.
-pub(crate) fn is_id_key(alloc: Global, text: &str) -> Result<bool, NoMemory>
-    ensures { IfOk result (λ is. IsTrue is ↔ IsIdKey text.now) }
-{
-    match PackageId::read(alloc, text)? {
-        Some(id) => Ok(id.key.as_str() == text),
-        None => Ok(false),
     }
 }
 

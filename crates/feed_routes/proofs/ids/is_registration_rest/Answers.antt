@@ -12,14 +12,14 @@ behind id tail = IsRegistrationTail tail
 pub returns-in_default : goal.returns-in_default
 returns-in_default c = pair_none IsIdKey behind free_id_key c.args.rest.now false c.in_default.ensures.first refl
 
-pub returns-then-branch : goal.returns-then-branch
-returns-then-branch c =
+pub returns-then-is_id_key : goal.returns-then-is_id_key
+returns-then-is_id_key c =
     IfOk-weaker c.is_registration_tail.result _ _
     (λ is h. pair_is IsIdKey behind free_id_key c.args.rest.now c.in-Some.id.now c.in-Some.tail.now is
-    c.in-Some.ensures.found c.in-Some.ensures.first (c.in_ok-is_id_key.ensures.0 c.if-branch.true) h)
+    c.in-Some.ensures.found c.in-Some.ensures.first (c.is_id_key.ensures.0 c.if-is_id_key.true) h)
     c.is_registration_tail.ensures
 
-pub returns-else-branch : goal.returns-else-branch
-returns-else-branch c =
+pub returns-else-is_id_key : goal.returns-else-is_id_key
+returns-else-is_id_key c =
     pair_not IsIdKey behind free_id_key c.args.rest.now c.in-Some.id.now c.in-Some.tail.now false c.in-Some.ensures.first
-    (λ k. off_on c.in_ok-is_id_key.field-0 c.if-branch.false (c.in_ok-is_id_key.ensures.1 k)) refl
+    (λ k. off_on c.is_id_key.result c.if-is_id_key.false (c.is_id_key.ensures.1 k)) refl
