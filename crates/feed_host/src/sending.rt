@@ -8,11 +8,10 @@ ghost use Rattle.feed_host.specs.Steps.{Sending};
 use crate::End;
 use crate::reply::Reply;
 use feed_base::Link;
-use http_wire::response_bytes;
-use std::alloc::Global;
+use http_wire::WireOut;
 
 // Writes a reply in one piece, or tells how the link ended.
-pub fn send<L: Link>(alloc: Global, link: &mut L, reply: &Reply, last: bool) -> Option<End>
+pub fn send<L: Link>(out: &mut WireOut, link: &mut L, reply: &Reply, last: bool) -> Option<End>
     requires { IsSendable reply.now }
     ensures out { let r = reply.now in Sending (wire_bytes r.status r.kind r.allow last r.body) (L.written link.old) result (L.written link.new) }
     ensures counted { CountsFault (L.write_faults link.old) (L.write_faults link.new) (result ≡ Some End.WriteFault) }
@@ -20,10 +19,12 @@ pub fn send<L: Link>(alloc: Global, link: &mut L, reply: &Reply, last: bool) -> 
     ensures same_read_faults { L.read_faults link.new ≡ L.read_faults link.old }
 {
     let body = reply.body.as_slice();
-    let Ok(bytes) = response_bytes(alloc, reply.status, reply.kind, reply.allow, last, body) else {
+    let Ok(()) = out.make(reply.status, reply.kind, reply.allow, last, body) else {
         return Some(End::Memory);
     };
-    match link.write(bytes.as_slice()) {
+    let written = link.write(out.as_slice());
+    out.clear();
+    match written {
         Ok(()) => None,
         Err(_) => Some(End::WriteFault),
     }

@@ -14,7 +14,7 @@ use crate::reply::Reply;
 use crate::sending::send;
 use feed_base::Link;
 use feed_routes::{RouteErr, Service, route};
-use http_wire::{Request, WireErr, WireIn, read_request};
+use http_wire::{Request, WireErr, WireIn, WireOut, read_request};
 use nuget_version::NoMemory;
 use std::alloc::Global;
 use std::sync::Wait;
@@ -57,6 +57,7 @@ fn end_behind(last: bool, stop: bool) -> Option<End>
 fn answer<S: Service, L: Link>(
     alloc: Global,
     service: &mut S,
+    out: &mut WireOut,
     link: &mut L,
     request: &Request,
 ) -> Option<End>
@@ -72,14 +73,14 @@ fn answer<S: Service, L: Link>(
         return Some(End::Memory);
     };
     let last = reply.is_last(request);
-    match send(alloc, link, &reply, last) {
+    match send(out, link, &reply, last) {
         None => end_behind(request.last, reply.stop),
         Some(end) => Some(end),
     }
 }
 
 // Ends the link, since there is no request.
-fn end_without<L: Link>(alloc: Global, link: &mut L, why: WireErr) -> End
+fn end_without<L: Link>(alloc: Global, out: &mut WireOut, link: &mut L, why: WireErr) -> End
     requires { HasRefusalStatus why }
     ensures closes { Closing why (L.written link.old) result (L.written link.new) }
     ensures status { HasStatus result }
@@ -92,7 +93,7 @@ fn end_without<L: Link>(alloc: Global, link: &mut L, why: WireErr) -> End
         WireErr::ReadFault => End::ReadFault,
         WireErr::Memory => End::Memory,
         WireErr::Bad(status) => {
-            match send(alloc, link, &Reply::bare(alloc, status, None), true) {
+            match send(out, link, &Reply::bare(alloc, status, None), true) {
                 None => End::AfterError(status),
                 Some(end) => end,
             }
@@ -105,6 +106,7 @@ fn serve_next<S: Service, L: Link>(
     alloc: Global,
     service: &mut S,
     wire: &mut WireIn,
+    out: &mut WireOut,
     link: &mut L,
 ) -> Option<End>
     requires { S.fit service.old }
@@ -116,8 +118,8 @@ fn serve_next<S: Service, L: Link>(
     ensures write_faults { CountsFault (L.write_faults link.old) (L.write_faults link.new) (result ≡ Some End.WriteFault) }
 {
     match read_request(alloc, wire, link) {
-        Ok(request) => answer(alloc, service, link, &request),
-        Err(why) => Some(end_without(alloc, link, why)),
+        Ok(request) => answer(alloc, service, out, link, &request),
+        Err(why) => Some(end_without(alloc, out, link, why)),
     }
 }
 
@@ -144,8 +146,9 @@ pub fn serve_asks<R: Wait, S: Service, L: Link>(
     ensures write_faults { CountsFault (L.write_faults link.old) (L.write_faults link.new) (result ≡ End.WriteFault) }
 {
     let mut wire = WireIn::new(alloc);
+    let mut out = WireOut::new(alloc);
     for _ in rt.forever() {
-        if let Some(end) = serve_next(alloc, service, &mut wire, link) {
+        if let Some(end) = serve_next(alloc, service, &mut wire, &mut out, link) {
             return end;
         }
     }
