@@ -1,4 +1,5 @@
 // What each refusal says.
+use crate::same::same;
 use package_id::IdErr;
 use std::alloc::{AllocError, Global};
 use std::fmt::Display;
@@ -43,7 +44,7 @@ const OF_MOMENTS: [(TickErr, &str); 3] = [
 fn say<E: Display>(rt: &impl Abort, alloc: Global, rows: &[(E, &str)]) -> Result<(), AllocError> {
     for (error, text) in rows {
         let said = format!(in alloc; "{error}")?;
-        assert_eq!(rt; said.as_str(), *text);
+        same(rt, said.as_str(), *text, "a refusal");
     }
     Ok(())
 }

@@ -1,5 +1,8 @@
 // Package ids with their keys, and refusals of texts that are none.
+use crate::same::same;
 use package_id::{IdErr, PackageId};
+use std::alloc::Global;
+use std::process::Abort;
 use std::test::Fail;
 
 // Texts that are ids, with their keys.
@@ -76,34 +79,53 @@ const REFUSED: [(&str, IdErr); 31] = [
     ),
 ];
 
-#[test]
-fn reads_ids(rt: HostRuntime) -> Result<(), Fail> {
-    for (text, key) in ACCEPTED {
-        let id = PackageId::parse(rt.alloc(), text)?;
-        assert_eq!(rt; id.text.as_str(), text);
-        assert_eq!(rt; id.key.as_str(), key);
-        let copy = id.copy(rt.alloc())?;
-        assert_eq!(rt; copy.text.as_str(), text);
-    }
+// Asserts that the text is an id with this key, as its copy is.
+fn is_id(rt: &impl Abort, alloc: Global, text: &str, key: &str) -> Result<(), IdErr> {
+    let id = PackageId::parse(alloc, text)?;
+    same(rt, id.text.as_str(), text, text);
+    same(rt, id.key.as_str(), key, text);
+    let copy = id.copy(alloc)?;
+    same(rt, copy.text.as_str(), text, text);
     Ok(())
 }
 
 #[test]
-fn refuses_what_is_none(rt: HostRuntime) {
-    for (text, reason) in REFUSED {
-        match PackageId::parse(rt.alloc(), text) {
-            Ok(_) => panic!(rt; "accepted {text}"),
-            Err(found) => assert_eq!(rt; found, reason, "of {text}"),
-        }
+fn reads_ids(rt: HostRuntime) -> Result<(), Fail> {
+    for (text, key) in &ACCEPTED {
+        is_id(&rt, rt.alloc(), text, key)?;
     }
+    Ok(())
+}
+
+fn refusal(alloc: Global, text: &str) -> Option<IdErr> {
+    PackageId::parse(alloc, text).err()
+}
+
+#[test]
+fn refuses_what_is_none(rt: HostRuntime) {
+    for (text, reason) in &REFUSED {
+        same(&rt, refusal(rt.alloc(), text), Some(*reason), *text);
+    }
+}
+
+fn are_same(alloc: Global, text: &str, other: &str) -> Result<bool, IdErr> {
+    let id = PackageId::parse(alloc, text)?;
+    Ok(id.same(&PackageId::parse(alloc, other)?))
 }
 
 #[test]
 fn compares_by_key(rt: HostRuntime) -> Result<(), Fail> {
-    let id = PackageId::parse(rt.alloc(), "Foo.Bar")?;
-    let lower = PackageId::parse(rt.alloc(), "foo.bar")?;
-    let other = PackageId::parse(rt.alloc(), "foo-bar")?;
-    assert!(rt; id.same(&lower));
-    assert!(rt; !id.same(&other));
+    same(
+        &rt,
+        are_same(rt.alloc(), "Foo.Bar", "foo.bar")?,
+        true,
+        "case",
+    );
+    same(
+        &rt,
+        are_same(rt.alloc(), "Foo.Bar", "foo-bar")?,
+        false,
+        "a dash",
+    );
     Ok(())
 }

@@ -22,11 +22,15 @@ const TEXTS: [(&[u8], bool); 10] = [
     (b"1 1", false),
 ];
 
+fn is_json(alloc: Global, bytes: &[u8]) -> Result<bool, AllocError> {
+    Ok(value_of(alloc, bytes)?.is_some())
+}
+
 #[test]
 fn reads_json_alone(rt: HostRuntime) -> Result<(), Fail> {
-    for (bytes, is_json) in TEXTS {
-        let found = value_of(rt.alloc(), bytes)?;
-        assert_eq!(rt; found.is_some(), is_json, "{bytes:?}");
+    for (bytes, want) in &TEXTS {
+        let found = is_json(rt.alloc(), bytes)?;
+        assert_eq!(rt; found, *want, "{bytes:?}");
     }
     Ok(())
 }
@@ -46,15 +50,16 @@ fn sample(alloc: Global) -> Result<Value, AllocError>
     json!(in alloc; {"A": [1, 2], "b": "\u{1f}"})
 }
 
+fn is_compact(alloc: Global, bytes: &[u8]) -> Result<bool, AllocError> {
+    let value = sample(alloc)?;
+    is_text_of(alloc, bytes, &value)
+}
+
 #[test]
 fn tells_the_compact_text(rt: HostRuntime) -> Result<(), Fail> {
-    for (bytes, is_compact) in SPELLINGS {
-        let value = sample(rt.alloc())?;
-        assert_eq!(rt;
-            is_text_of(rt.alloc(), bytes, &value)?,
-            is_compact,
-            "{bytes:?}"
-        );
+    for (bytes, want) in &SPELLINGS {
+        let found = is_compact(rt.alloc(), bytes)?;
+        assert_eq!(rt; found, *want, "{bytes:?}");
     }
     Ok(())
 }

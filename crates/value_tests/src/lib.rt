@@ -14,4 +14,6 @@ mod moments;
 #[cfg(test)]
 mod ranges;
 #[cfg(test)]
+mod same;
+#[cfg(test)]
 mod versions;

@@ -1,4 +1,5 @@
 // A publisher's metadata: what is refused and why, what is read, and what is printed of it.
+use crate::same::same;
 use pkg_meta::{Details, Meta, MetaErr, Text, Ticks};
 use std::alloc::{AllocError, Global};
 use std::process::Abort;
@@ -150,24 +151,16 @@ const REFUSED: [(&str, &str); 47] = [
 ];
 
 fn told(alloc: Global, error: &MetaErr) -> Result<String, AllocError> {
-    match error {
-        MetaErr::TooLarge(len) => format!(in alloc; "large {len}"),
-        MetaErr::NotJson => String::from_str(alloc, "json"),
-        MetaErr::Field(name) => {
-            let name = name.as_str();
-            format!(in alloc; "field {name}")
-        }
-        MetaErr::BadId(path) => {
-            let path = path.as_str();
-            format!(in alloc; "id {path}")
-        }
-        MetaErr::BadVersion => String::from_str(alloc, "version"),
-        MetaErr::BadRange(path) => {
-            let path = path.as_str();
-            format!(in alloc; "range {path}")
-        }
-        MetaErr::Memory => String::from_str(alloc, "memory"),
-    }
+    let (word, place) = match error {
+        MetaErr::TooLarge(len) => return format!(in alloc; "large {len}"),
+        MetaErr::NotJson => ("json", ""),
+        MetaErr::Field(name) => ("field ", name.as_str()),
+        MetaErr::BadId(path) => ("id ", path.as_str()),
+        MetaErr::BadVersion => ("version", ""),
+        MetaErr::BadRange(path) => ("range ", path.as_str()),
+        MetaErr::Memory => ("memory", ""),
+    };
+    format!(in alloc; "{word}{place}")
 }
 
 // What is answered: the reason, or what the metadata prints as.
@@ -183,12 +176,12 @@ fn answer(alloc: Global, bytes: &[u8]) -> Result<String, AllocError> {
 
 #[test]
 fn refuses_with_the_first_reason(rt: HostRuntime) -> Result<(), Fail> {
-    for (text, what) in REFUSED {
+    for (text, what) in &REFUSED {
         let said = answer(rt.alloc(), text.as_bytes())?;
-        assert_eq!(rt; said.as_str(), what, "{text}");
+        same(&rt, said.as_str(), *what, *text);
     }
     let said = answer(rt.alloc(), b"{\"id\":\"\xff\"}")?;
-    assert_eq!(rt; said.as_str(), "json");
+    same(&rt, said.as_str(), "json", "a byte that is no text");
     Ok(())
 }
 
@@ -241,9 +234,9 @@ const ALL: &str =
 
 #[test]
 fn reads_and_prints(rt: HostRuntime) -> Result<(), Fail> {
-    for (text, printed) in READ {
+    for (text, printed) in &READ {
         let said = answer(rt.alloc(), text.as_bytes())?;
-        assert_eq!(rt; said.as_str(), printed, "{text}");
+        same(&rt, said.as_str(), *printed, *text);
     }
     Ok(())
 }
@@ -270,29 +263,46 @@ fn nested(alloc: Global, arrays: usize) -> Result<String, AllocError> {
     Ok(text)
 }
 
+const BARE: &str = "{\"id\":\"Foo\",\"verbatimVersion\":\"1.0.0\",\"version\":\"1.0.0\"}";
+
 #[test]
-fn keeps_the_limits(rt: HostRuntime) -> Result<(), Fail> {
+fn keeps_the_limit_of_bytes(rt: HostRuntime) -> Result<(), Fail> {
     let alloc = rt.alloc();
-    let printed = "{\"id\":\"Foo\",\"verbatimVersion\":\"1.0.0\",\"version\":\"1.0.0\"}";
-    let at_limit = padded(alloc, 32_768)?;
-    assert_eq!(rt; answer(alloc, at_limit.as_bytes())?.as_str(), printed);
-    let above = padded(alloc, 32_769)?;
-    assert_eq!(rt; answer(alloc, above.as_bytes())?.as_str(), "large 32769");
-    // The outer object counts.
-    let deep = nested(alloc, 126)?;
-    assert_eq!(rt; answer(alloc, deep.as_bytes())?.as_str(), printed);
-    let deeper = nested(alloc, 127)?;
-    assert_eq!(rt; answer(alloc, deeper.as_bytes())?.as_str(), "json");
+    for (len, want) in &[(32_768, BARE), (32_769, "large 32769")] {
+        let text = padded(alloc, *len)?;
+        same(&rt, answer(alloc, text.as_bytes())?.as_str(), *want, *len);
+    }
     Ok(())
+}
+
+// The outer object counts.
+#[test]
+fn keeps_the_limit_of_depth(rt: HostRuntime) -> Result<(), Fail> {
+    let alloc = rt.alloc();
+    for (arrays, want) in &[(126, BARE), (127, "json")] {
+        let text = nested(alloc, *arrays)?;
+        same(
+            &rt,
+            answer(alloc, text.as_bytes())?.as_str(),
+            *want,
+            *arrays,
+        );
+    }
+    Ok(())
+}
+
+fn meta_of(alloc: Global, text: &str) -> Result<Meta, AllocError> {
+    match Meta::read(alloc, text.as_bytes()) {
+        Ok(meta) => Ok(meta),
+        Err(_) => Err(AllocError),
+    }
 }
 
 // The details of metadata published at place 0 of commit 1, on 2024-01-01, with a package of three bytes.
 fn published(rt: &impl Abort, alloc: Global, text: &str) -> Result<Details, AllocError> {
-    let Ok(meta) = Meta::read(alloc, text.as_bytes()) else {
-        return Err(AllocError);
-    };
     let stamp = Ticks::of(638_396_640_000_000_000).expect(rt, "a moment");
     let hash = Text::of(String::from_str(alloc, HASH)?);
+    let meta = meta_of(alloc, text)?;
     Ok(Details::published(meta, 1, 0, stamp, 3, hash))
 }
 
@@ -311,9 +321,19 @@ fn printed(alloc: Global, details: &Details) -> Result<String, AllocError> {
 fn prints_details(rt: HostRuntime) -> Result<(), Fail> {
     let alloc = rt.alloc();
     let mut details = published(&rt, alloc, "{\"id\":\"Foo\",\"version\":\"1.0.0\"}")?;
-    assert_eq!(rt; printed(alloc, &details)?.as_str(), LISTED);
+    same(
+        &rt,
+        printed(alloc, &details)?.as_str(),
+        LISTED,
+        "a listed one",
+    );
     details.listed = false;
-    assert_eq!(rt; printed(alloc, &details)?.as_str(), UNLISTED);
+    same(
+        &rt,
+        printed(alloc, &details)?.as_str(),
+        UNLISTED,
+        "an unlisted one",
+    );
     Ok(())
 }
 
@@ -346,11 +366,14 @@ const SEMVER2: [(&str, bool); 7] = [
     ),
 ];
 
+fn is_semver2(rt: &impl Abort, alloc: Global, text: &str) -> Result<bool, AllocError> {
+    Ok(published(rt, alloc, text)?.is_semver2())
+}
+
 #[test]
 fn tells_semver2_packages(rt: HostRuntime) -> Result<(), Fail> {
-    for (text, is_semver2) in SEMVER2 {
-        let details = published(&rt, rt.alloc(), text)?;
-        assert_eq!(rt; details.is_semver2(), is_semver2, "{text}");
+    for (text, want) in &SEMVER2 {
+        same(&rt, is_semver2(&rt, rt.alloc(), text)?, *want, *text);
     }
     Ok(())
 }

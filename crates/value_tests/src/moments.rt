@@ -1,4 +1,7 @@
 // Moments with their stamps, texts that name moments or none, and the moment after another.
+use crate::same::same;
+use nuget_version::Text;
+use std::alloc::Global;
 use std::test::Fail;
 use ticks::{LAST, TickErr, Ticks, after};
 
@@ -91,13 +94,25 @@ const READ: &[(&str, Result<u64, TickErr>)] = &[
     ("٢024-01-01T00:00:00Z", Err(TickErr::BadByte(0))),
 ];
 
+// The text of the moment with this number.
+fn printed(alloc: Global, number: u64) -> Result<Text, Fail> {
+    let moment = Ticks::of(number).ok_or("no moment")?;
+    Ok(moment.print(alloc)?)
+}
+
+fn number_of(text: &str) -> Result<u64, TickErr> {
+    match Ticks::read(text) {
+        Ok(moment) => Ok(moment.number()),
+        Err(refusal) => Err(refusal),
+    }
+}
+
 #[test]
 fn prints_moments_that_read_back(rt: HostRuntime) -> Result<(), Fail> {
     for (number, text) in PRINTED {
-        let moment = Ticks::of(*number).ok_or("no moment")?;
-        let printed = moment.print(rt.alloc())?;
-        assert_eq!(rt; printed.as_str(), *text, "{number}");
-        assert_eq!(rt; number_of(Ticks::read(text)), Ok(*number), "{text}");
+        let printed = printed(rt.alloc(), *number)?;
+        same(&rt, printed.as_str(), *text, *number);
+        same(&rt, number_of(text), Ok(*number), *text);
     }
     Ok(())
 }
@@ -105,36 +120,33 @@ fn prints_moments_that_read_back(rt: HostRuntime) -> Result<(), Fail> {
 #[test]
 fn reads_and_refuses(rt: HostRuntime) {
     for (text, want) in READ {
-        assert_eq!(rt; number_of(Ticks::read(text)), *want, "{text}");
+        same(&rt, number_of(text), *want, *text);
     }
 }
 
-fn number_of(read: Result<Ticks, TickErr>) -> Result<u64, TickErr> {
-    match read {
-        Ok(moment) => Ok(moment.number()),
-        Err(refusal) => Err(refusal),
-    }
+// The numbers of a moment, of what the clock says, and of the moment after the first by that clock.
+const FOLLOWING: [(u64, u64, Option<u64>); 7] = [
+    (5, 9, Some(9)),
+    (5, 6, Some(6)),
+    (5, 5, Some(6)),
+    (5, 0, Some(6)),
+    (LAST - 1, 0, Some(LAST)),
+    (LAST, LAST, None),
+    (LAST, 0, None),
+];
+
+fn following(last: u64, now: u64) -> Result<Option<u64>, Fail> {
+    let last = Ticks::of(last).ok_or("no moment")?;
+    let now = Ticks::of(now).ok_or("no moment")?;
+    Ok(after(last, now).map(|moment| moment.number()))
 }
 
 #[test]
 fn follows_the_clock(rt: HostRuntime) -> Result<(), Fail> {
-    for (last, now, want) in [
-        (5, 9, Some(9)),
-        (5, 6, Some(6)),
-        (5, 5, Some(6)),
-        (5, 0, Some(6)),
-        (LAST - 1, 0, Some(LAST)),
-        (LAST, LAST, None),
-        (LAST, 0, None),
-    ] {
-        let last = Ticks::of(last).ok_or("no moment")?;
-        let now = Ticks::of(now).ok_or("no moment")?;
-        assert_eq!(rt;
-            after(last, now).map(|moment| moment.number()),
-            want,
-            "{last:?} {now:?}"
-        );
+    for (last, now, want) in &FOLLOWING {
+        let found = following(*last, *now)?;
+        assert_eq!(rt; found, *want, "{last} {now}");
     }
-    assert_eq!(rt; Ticks::of(LAST + 1), None);
+    same(&rt, Ticks::of(LAST + 1), None, "what is behind the last");
     Ok(())
 }

@@ -1,5 +1,8 @@
 // Ranges with their printed forms, the versions that they hold, and refusals of texts that are none.
-use nuget_version::Version;
+use crate::same::same;
+use nuget_version::{Text, Version, VersionErr};
+use std::alloc::Global;
+use std::process::Abort;
 use std::test::Fail;
 use version_range::{RangeErr, VersionRange};
 
@@ -129,6 +132,7 @@ const HELD: [(&str, usize, usize); 8] = [
     ("", 0, 19),
 ];
 
+// Ranges, and whether an end is a SemVer 2.0.0 version.
 const SEMVER2: [(&str, bool); 8] = [
     ("", false),
     ("1.0", false),
@@ -140,45 +144,81 @@ const SEMVER2: [(&str, bool); 8] = [
     ("(1.0.0.1,2.0-rc-1)", false),
 ];
 
+// The text of the range that a text is.
+fn printed(alloc: Global, text: &str) -> Result<Text, RangeErr> {
+    let range = VersionRange::parse(alloc, text)?;
+    Ok(range.text(alloc)?)
+}
+
+fn copy_of(alloc: Global, text: &str) -> Result<VersionRange, RangeErr> {
+    let range = VersionRange::parse(alloc, text)?;
+    Ok(range.copy(alloc)?)
+}
+
+// The same of the range's copy.
+fn copied(alloc: Global, text: &str) -> Result<Text, RangeErr> {
+    let copy = copy_of(alloc, text)?;
+    Ok(copy.text(alloc)?)
+}
+
 #[test]
 fn reads_and_prints(rt: HostRuntime) -> Result<(), Fail> {
-    for (text, printed) in ACCEPTED {
-        let range = VersionRange::parse(rt.alloc(), text)?;
-        assert_eq!(rt; range.text(rt.alloc())?.as_str(), printed, "of {text}");
-        let again = VersionRange::parse(rt.alloc(), printed)?.copy(rt.alloc())?;
-        assert_eq!(rt; again.text(rt.alloc())?.as_str(), printed);
+    for (text, want) in &ACCEPTED {
+        same(&rt, printed(rt.alloc(), text)?.as_str(), *want, *text);
+        same(&rt, copied(rt.alloc(), want)?.as_str(), *want, *want);
     }
     Ok(())
+}
+
+fn refusal(alloc: Global, text: &str) -> Option<RangeErr> {
+    VersionRange::parse(alloc, text).err()
 }
 
 #[test]
 fn refuses_what_is_none(rt: HostRuntime) {
-    for (text, reason) in REFUSED {
-        match VersionRange::parse(rt.alloc(), text) {
-            Ok(_) => panic!(rt; "accepted {text}"),
-            Err(found) => assert_eq!(rt; found, reason, "of {text}"),
-        }
+    for (text, reason) in &REFUSED {
+        same(&rt, refusal(rt.alloc(), text), Some(*reason), *text);
     }
 }
 
-#[test]
-fn holds_what_is_between(rt: HostRuntime) -> Result<(), Fail> {
-    for (text, first, last) in HELD {
-        let range = VersionRange::parse(rt.alloc(), text)?;
-        for (place, version) in VERSIONS.iter().enumerate() {
-            let version = Version::parse(rt.alloc(), *version)?;
-            let is_between = first <= place && place <= last;
-            assert_eq!(rt; range.holds(&version), is_between, "{text} at {place}");
-        }
+fn holds(alloc: Global, range: &VersionRange, version: &str) -> Result<bool, VersionErr> {
+    let version = Version::parse(alloc, version)?;
+    Ok(range.holds(&version))
+}
+
+// Asserts that of the versions the range holds those from the first to the last.
+fn holds_those(
+    rt: &impl Abort,
+    alloc: Global,
+    text: &str,
+    first: usize,
+    last: usize,
+) -> Result<(), Fail> {
+    let range = VersionRange::parse(alloc, text)?;
+    for (place, version) in VERSIONS.iter().enumerate() {
+        let is_between = first <= place && place <= last;
+        let is_held = holds(alloc, &range, *version)?;
+        assert_eq!(rt; is_held, is_between, "{text} at {place}");
     }
     Ok(())
 }
 
 #[test]
+fn holds_what_is_between(rt: HostRuntime) -> Result<(), Fail> {
+    for (text, first, last) in &HELD {
+        holds_those(&rt, rt.alloc(), text, *first, *last)?;
+    }
+    Ok(())
+}
+
+fn is_semver2(alloc: Global, text: &str) -> Result<bool, RangeErr> {
+    Ok(VersionRange::parse(alloc, text)?.is_semver2())
+}
+
+#[test]
 fn tells_semver2(rt: HostRuntime) -> Result<(), Fail> {
-    for (text, is_semver2) in SEMVER2 {
-        let range = VersionRange::parse(rt.alloc(), text)?;
-        assert_eq!(rt; range.is_semver2(), is_semver2, "{text}");
+    for (text, want) in &SEMVER2 {
+        same(&rt, is_semver2(rt.alloc(), text)?, *want, *text);
     }
     Ok(())
 }

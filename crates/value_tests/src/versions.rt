@@ -1,7 +1,9 @@
 // Values and refusals of version texts, printed forms, and the order of lists of versions.
-use nuget_version::{Bytes, Many, Text, Version, VersionErr};
+use crate::same::same;
+use nuget_version::{Bytes, Many, NoMemory, Text, Version, VersionErr};
 use std::alloc::{AllocError, Global};
 use std::cmp::Ordering;
+use std::process::Abort;
 use std::test::Fail;
 
 // A text, and its four numbers, labels and metadata, or its refusal.
@@ -149,23 +151,58 @@ fn texts_have_these_values(rt: HostRuntime) -> Result<(), Fail> {
     for line in TEXTS.lines() {
         if let Some((text, want)) = line.split_once(" => ") {
             let outcome = outcome_of(rt.alloc(), text)?;
-            assert_eq!(rt; outcome.as_str(), want, "at {text}");
+            same(&rt, outcome.as_str(), want, text);
             rows = rows.saturating_add(1);
         }
     }
-    assert_eq!(rt; rows, 77);
+    same(&rt, rows, 77, "all rows");
     Ok(())
+}
+
+fn copy_of(alloc: Global, text: &str) -> Result<Version, VersionErr> {
+    let version = Version::parse(alloc, text)?;
+    Ok(version.copy(alloc)?)
+}
+
+// Asserts that a form of the version that a text is, if it was made, is what it should be.
+fn is_form(
+    rt: &impl Abort,
+    form: Result<Text, NoMemory>,
+    want: &str,
+    of: &str,
+) -> Result<(), NoMemory> {
+    same(rt, form?.as_str(), want, of);
+    Ok(())
+}
+
+// Asserts the normal form, the full form and the key of the copy of the version that a text is.
+fn has_forms(
+    rt: &impl Abort,
+    alloc: Global,
+    text: &str,
+    normal: &str,
+    full: &str,
+    key: &str,
+) -> Result<(), VersionErr> {
+    let version = copy_of(alloc, text)?;
+    is_form(rt, version.normal(alloc), normal, text)?;
+    is_form(rt, version.full(alloc), full, text)?;
+    is_form(rt, version.key(alloc), key, text)?;
+    Ok(())
+}
+
+// Whether the copy is a pre-release, and whether it is a SemVer 2.0.0 version.
+fn marks_of(alloc: Global, text: &str) -> Result<(bool, bool), VersionErr> {
+    let version = copy_of(alloc, text)?;
+    Ok((version.is_pre(), version.is_semver2()))
 }
 
 #[test]
 fn printed_forms(rt: HostRuntime) -> Result<(), Fail> {
-    for (text, normal, full, key, is_pre, is_semver2) in FORMS {
-        let version = Version::parse(rt.alloc(), text)?.copy(rt.alloc())?;
-        assert_eq!(rt; version.normal(rt.alloc())?.as_str(), normal, "of {text}");
-        assert_eq!(rt; version.full(rt.alloc())?.as_str(), full, "of {text}");
-        assert_eq!(rt; version.key(rt.alloc())?.as_str(), key, "of {text}");
-        assert_eq!(rt; version.is_pre(), is_pre, "{text}");
-        assert_eq!(rt; version.is_semver2(), is_semver2, "{text}");
+    for (text, normal, full, key, is_pre, is_semver2) in &FORMS {
+        has_forms(&rt, rt.alloc(), text, normal, full, key)?;
+        let marks = marks_of(rt.alloc(), text)?;
+        same(&rt, marks, (*is_pre, *is_semver2), *text);
     }
     Ok(())
 }
@@ -178,7 +215,7 @@ fn order_of(alloc: Global, text: &str, other: &str) -> Result<Ordering, VersionE
 // All pairs, in both orders.
 #[test]
 fn versions_rise(rt: HostRuntime) -> Result<(), Fail> {
-    for list in RISING {
+    for list in &RISING {
         for (i, text) in list.split(' ').enumerate() {
             for (j, other) in list.split(' ').enumerate() {
                 let order = order_of(rt.alloc(), text, other)?;
@@ -189,20 +226,22 @@ fn versions_rise(rt: HostRuntime) -> Result<(), Fail> {
     Ok(())
 }
 
+fn key_of(alloc: Global, text: &str) -> Result<Text, VersionErr> {
+    let version = Version::parse(alloc, text)?;
+    Ok(version.key(alloc)?)
+}
+
 fn keys_are_same(alloc: Global, text: &str, other: &str) -> Result<bool, VersionErr> {
-    let key = Version::parse(alloc, text)?.key(alloc)?;
-    Ok(key.is_same(&Version::parse(alloc, other)?.key(alloc)?))
+    let key = key_of(alloc, text)?;
+    Ok(key.is_same(&key_of(alloc, other)?))
 }
 
 #[test]
 fn versions_tie(rt: HostRuntime) -> Result<(), Fail> {
-    for (text, other) in TIES {
-        let order = order_of(rt.alloc(), text, other)?;
-        assert!(rt; order == Ordering::Equal, "{text} and {other}");
-        assert!(rt;
-            keys_are_same(rt.alloc(), text, other)?,
-            "{text} and {other}"
-        );
+    for (text, other) in &TIES {
+        let ties = order_of(rt.alloc(), text, other)? == Ordering::Equal;
+        let has_one_key = keys_are_same(rt.alloc(), text, other)?;
+        assert_eq!(rt; (ties, has_one_key), (true, true), "{text} and {other}");
     }
     Ok(())
 }
@@ -211,14 +250,24 @@ fn versions_tie(rt: HostRuntime) -> Result<(), Fail> {
 fn base_types(rt: HostRuntime) -> Result<(), Fail> {
     let alloc = rt.alloc();
     let text = Text::copy_of(alloc, "ab")?;
-    assert_eq!(rt; text.copy(alloc)?.as_str(), "ab");
-    assert_eq!(rt; text.into_string().as_str(), "ab");
+    same(&rt, text.copy(alloc)?.as_str(), "ab", "a copy of a text");
+    same(&rt, text.into_string().as_str(), "ab", "a text");
     let bytes = Bytes::copy_of(alloc, b"ab")?;
-    assert_eq!(rt; bytes.copy(alloc)?.into_vec().as_slice(), b"ab".as_slice());
+    same(
+        &rt,
+        bytes.copy(alloc)?.into_vec().as_slice(),
+        b"ab".as_slice(),
+        "a copy of bytes",
+    );
     let mut many = Many::new(alloc);
     many.push(7u8)?;
-    assert_eq!(rt; many.len(), 1);
-    assert_eq!(rt; many.get(0).copied(), Some(7));
-    assert_eq!(rt; Many::of(many.into_vec()).as_slice(), [7u8].as_slice());
+    same(&rt, many.len(), 1, "a count");
+    same(&rt, many.get(0).copied(), Some(7), "an element");
+    same(
+        &rt,
+        Many::of(many.into_vec()).as_slice(),
+        [7u8].as_slice(),
+        "a list",
+    );
     Ok(())
 }
