@@ -1,4 +1,5 @@
 // Bodies, and the changes that they ask for, or the line that refuses them.
+use crate::same::same;
 use admin_wire::{BodyErr, Line, NameKind, line_bytes, read_names, read_pair, read_publish};
 use catalog_doc::{Change, Changes};
 use pkg_meta::{Bytes, NoMemory, PackageId, Version};
@@ -142,7 +143,7 @@ fn reads_publishes(rt: HostRuntime) -> Result<(), Fail> {
     let alloc = rt.alloc();
     for (body, want) in &PUBLISHES {
         let got = told(alloc, read_publish(alloc, body.as_bytes()))?;
-        assert_eq!(rt; got.as_str(), *want, "{body}");
+        same(&rt, got.as_str(), *want, *body);
     }
     Ok(())
 }
@@ -152,23 +153,41 @@ fn reads_names(rt: HostRuntime) -> Result<(), Fail> {
     let alloc = rt.alloc();
     for (body, want) in &NAMES {
         let got = told(alloc, read_names(alloc, NameKind::Unlist, body.as_bytes()))?;
-        assert_eq!(rt; got.as_str(), *want, "{body}");
+        same(&rt, got.as_str(), *want, *body);
     }
     let of_bytes = read_names(alloc, NameKind::Delete, b"Foo 1.0.0\n\xff 1.0.0\n");
-    assert_eq!(rt; told(alloc, of_bytes)?.as_str(), "refused id 1\n");
+    same(
+        &rt,
+        told(alloc, of_bytes)?.as_str(),
+        "refused id 1\n",
+        "a byte that is no text",
+    );
     Ok(())
 }
 
+// Kinds and pairs of words, and the change or the refusal.
+const PAIRS: [(NameKind, &str, &str, &str); 4] = [
+    (NameKind::Relist, "Foo", "1.0", "list Foo 1.0.0"),
+    (NameKind::Delete, "Foo", "1.0.0-b", "delete Foo 1.0.0-b"),
+    (
+        NameKind::Delete,
+        "",
+        "x",
+        "the word at place 7 is no package id",
+    ),
+    (
+        NameKind::Delete,
+        "Foo",
+        "x",
+        "the word at place 7 is no version",
+    ),
+];
+
 #[test]
 fn reads_pairs(rt: HostRuntime) -> Result<(), Fail> {
-    let alloc = rt.alloc();
-    let relist = pair_told(alloc, NameKind::Relist, "Foo", "1.0")?;
-    assert_eq!(rt; relist.as_str(), "list Foo 1.0.0");
-    let delete = pair_told(alloc, NameKind::Delete, "Foo", "1.0.0-b")?;
-    assert_eq!(rt; delete.as_str(), "delete Foo 1.0.0-b");
-    let no_id = pair_told(alloc, NameKind::Delete, "", "x")?;
-    assert_eq!(rt; no_id.as_str(), "the word at place 7 is no package id");
-    let no_version = pair_told(alloc, NameKind::Delete, "Foo", "x")?;
-    assert_eq!(rt; no_version.as_str(), "the word at place 7 is no version");
+    for (kind, id, version, want) in &PAIRS {
+        let said = pair_told(rt.alloc(), *kind, id, version)?;
+        same(&rt, said.as_str(), *want, *want);
+    }
     Ok(())
 }

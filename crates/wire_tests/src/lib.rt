@@ -7,3 +7,5 @@
 mod bodies;
 #[cfg(test)]
 mod lines;
+#[cfg(test)]
+mod same;
