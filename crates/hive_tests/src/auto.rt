@@ -1,5 +1,6 @@
 // The auto hive's documents of publishes, an unlisting and a publish under another spelling.
 use crate::catalogs::{BASE, commit, details, publishes, text_of};
+use crate::same::same;
 use auto_docs::{Auto, Hive, HiveName};
 use fold_core::{Commit, Item, Many, NoMemory, docs_from_scratch, from_scratch};
 use std::alloc::Global;
@@ -44,20 +45,25 @@ fn told(alloc: Global, commits: &[Commit], count: usize, key: &str) -> Result<St
     Ok(told)
 }
 
+// How many commits there are, an id's key, and its documents.
+const DOCUMENTS: [(usize, &str, &str); 5] = [
+    (0, "json.net", ""),
+    (1, "json.net", BOTH),
+    (2, "json.net", LISTED),
+    (3, "json.net", SPELLED),
+    (3, "json", ""),
+];
+
 #[test]
 fn listed_versions(rt: HostRuntime) -> Result<(), Fail> {
     let alloc = rt.alloc();
     let commits = catalog(alloc)?;
-    for (count, key, want) in [
-        (0, "json.net", ""),
-        (1, "json.net", BOTH),
-        (2, "json.net", LISTED),
-        (3, "json.net", SPELLED),
-        (3, "json", ""),
-    ] {
-        assert_eq!(rt; told(alloc, &commits, count, key)?.as_str(), want);
+    for (count, key, want) in &DOCUMENTS {
+        let told = told(alloc, &commits, *count, *key)?;
+        same(&rt, told.as_str(), *want, *count);
     }
-    assert_eq!(rt; from_scratch::<Auto>(alloc, &commits, "json.net")?.len(), 2);
-    assert!(rt; Auto::NAME == HiveName::Auto);
+    let entries = from_scratch::<Auto>(alloc, &commits, "json.net")?.len();
+    same(&rt, entries, 2, "the entries");
+    same(&rt, Auto::NAME == HiveName::Auto, true, "the hive's name");
     Ok(())
 }

@@ -1,5 +1,6 @@
 // The content hive's documents of publishes, an unlisting, a delete and a publish again.
 use crate::catalogs::{commit, details, publishes, text_of};
+use crate::same::same;
 use flat_container::{Body, Content, Hive, HiveName};
 use fold_core::{Commit, Doc, Item, Many, NoMemory, docs_from_scratch};
 use std::alloc::{AllocError, Global};
@@ -95,21 +96,30 @@ fn told(alloc: Global, commits: &[Commit], count: usize, key: &str) -> Result<St
     Ok(told)
 }
 
+// How many commits there are, an id's key, and its documents.
+const DOCUMENTS: [(usize, &str, &str); 7] = [
+    (0, "foo", ""),
+    (1, "foo", BOTH),
+    (2, "foo", BOTH),
+    (3, "foo", DELETED),
+    (4, "foo", PUBLISHED_AGAIN),
+    (4, "bar.core", OF_BAR),
+    (4, "bar", ""),
+];
+
 #[test]
 fn packages_and_manifests(rt: HostRuntime) -> Result<(), Fail> {
     let alloc = rt.alloc();
     let commits = catalog(alloc)?;
-    for (count, want) in [
-        (0, ""),
-        (1, BOTH),
-        (2, BOTH),
-        (3, DELETED),
-        (4, PUBLISHED_AGAIN),
-    ] {
-        assert_eq!(rt; told(alloc, &commits, count, "foo")?.as_str(), want);
+    for (count, key, want) in &DOCUMENTS {
+        let told = told(alloc, &commits, *count, *key)?;
+        same(&rt, told.as_str(), *want, *count);
     }
-    assert_eq!(rt; told(alloc, &commits, 4, "bar.core")?.as_str(), OF_BAR);
-    assert_eq!(rt; told(alloc, &commits, 4, "bar")?.as_str(), "");
-    assert!(rt; Content::NAME == HiveName::Content);
+    same(
+        &rt,
+        Content::NAME == HiveName::Content,
+        true,
+        "the hive's name",
+    );
     Ok(())
 }

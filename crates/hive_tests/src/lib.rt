@@ -13,6 +13,8 @@ mod pages;
 #[cfg(test)]
 mod passes;
 #[cfg(test)]
+mod same;
+#[cfg(test)]
 mod states;
 #[cfg(test)]
 mod texts;

@@ -1,5 +1,6 @@
 // Many versions: which documents there are, in which order, and which pages.
 use crate::catalogs::{BASE, docs, publishes, stamp, text_of, told};
+use crate::same::same;
 use fold_core::{Commit, Doc, NoMemory, from_scratch};
 use reg_docs::{Plain, RegistrationHive, SemVer2, reg_index, reg_leaf, reg_pages};
 use serde_json::Value;
@@ -158,10 +159,17 @@ fn each_function_answers(rt: HostRuntime) -> Result<(), Fail> {
     let alloc = rt.alloc();
     let commits = commits(alloc, &minors(alloc, 128, 128)?)?;
     let entries = from_scratch::<SemVer2>(alloc, &commits, "foo")?.into_vec();
+    let last = entries.last().expect(&rt, "one");
     for hive in [RegistrationHive::Plain, RegistrationHive::SemVer2] {
-        assert!(rt; reg_index(alloc, BASE, hive, "foo", 2, stamp(2), &entries).is_ok());
-        assert!(rt; reg_pages(alloc, BASE, hive, "foo", &entries).is_ok());
-        assert!(rt; reg_leaf(alloc, BASE, hive, "foo", entries.last().expect(&rt, "one")).is_ok());
+        let index = reg_index(alloc, BASE, hive, "foo", 2, stamp(2), &entries).is_ok();
+        let pages = reg_pages(alloc, BASE, hive, "foo", &entries).is_ok();
+        let leaf = reg_leaf(alloc, BASE, hive, "foo", last).is_ok();
+        same(
+            &rt,
+            (index, pages, leaf),
+            (true, true, true),
+            "what is answered",
+        );
     }
     Ok(())
 }

@@ -4,6 +4,7 @@ use flat_container::Content;
 use hive_state::read_state;
 use id_pass::{Body, Call, Item, NoMemory, Placed, Plan, StateDoc, Ticks, make_plan};
 use std::alloc::{AllocError, Global};
+use std::process::Abort;
 use std::test::Fail;
 
 const SHORT: &str = r#"{"id":"Foo","version":"1.2"}"#;
@@ -109,21 +110,32 @@ fn walk(alloc: Global, plan: &mut Plan, n: u32) -> Result<(String, Option<StateD
     Ok((lines, state))
 }
 
+// Asserts the calls of a pass from a state up to a commit, and gives the state that the n-th one puts.
+fn passes(
+    rt: &impl Abort,
+    alloc: Global,
+    old: Option<&StateDoc>,
+    items: &[Placed],
+    target: u32,
+    n: u32,
+    want: &str,
+) -> Result<Option<StateDoc>, NoMemory> {
+    let mut plan = plan(alloc, old, items, target)?;
+    let (lines, state) = walk(alloc, &mut plan, n)?;
+    assert_eq!(rt; lines.as_str(), want);
+    Ok(state)
+}
+
 #[test]
 fn calls_of_passes(rt: HostRuntime) -> Result<(), Fail> {
     let alloc = rt.alloc();
     let first = [publish(alloc, SHORT, 1)?];
-    let (lines, clean) = walk(alloc, &mut plan(alloc, None, &first, 1)?, 4)?;
-    assert_eq!(rt; lines.as_str(), FIRST);
+    let clean = passes(&rt, alloc, None, &first, 1, 4, FIRST)?;
     let second = [publish(alloc, NEXT, 2)?];
-    let (lines, dirty) = walk(alloc, &mut plan(alloc, clean.as_ref(), &second, 2)?, 0)?;
-    assert_eq!(rt; lines.as_str(), SECOND);
-    let (lines, _) = walk(alloc, &mut plan(alloc, dirty.as_ref(), &[], 2)?, 0)?;
-    assert_eq!(rt; lines.as_str(), AGAIN);
+    let dirty = passes(&rt, alloc, clean.as_ref(), &second, 2, 0, SECOND)?;
+    passes(&rt, alloc, dirty.as_ref(), &[], 2, 0, AGAIN)?;
     let gone = [delete(alloc, SHORT, 2)?];
-    let (lines, _) = walk(alloc, &mut plan(alloc, clean.as_ref(), &gone, 2)?, 0)?;
-    assert_eq!(rt; lines.as_str(), GONE);
-    let (lines, _) = walk(alloc, &mut plan(alloc, clean.as_ref(), &[], 2)?, 0)?;
-    assert_eq!(rt; lines.as_str(), "");
+    passes(&rt, alloc, clean.as_ref(), &gone, 2, 0, GONE)?;
+    passes(&rt, alloc, clean.as_ref(), &[], 2, 0, "")?;
     Ok(())
 }

@@ -1,4 +1,5 @@
 // A state's document, byte for byte, and texts that are none.
+use crate::same::same;
 use fold_core::NoMemory;
 use hive_state::{DocErr, StateDoc, read_state, state_bytes, state_name};
 use std::alloc::Global;
@@ -38,17 +39,23 @@ fn is_damaged(alloc: Global, text: &str) -> bool {
 
 // Asserts what the state says.
 fn check(rt: &impl Abort, state: &StateDoc) {
-    assert_eq!(rt; (state.at, state.touched, state.dirty), (3, 2, true));
-    assert_eq!(rt; (state.names.len(), state.entries.len()), (3, 2));
-    assert!(rt; state.has("d/json.net/1.1.0-beta.json"));
-    assert!(rt; !state.has("d/json.net/1.1.0.json"));
+    let marks = (state.at, state.touched, state.dirty);
+    same(rt, marks, (3, 2, true), "the marks");
+    same(
+        rt,
+        (state.names.len(), state.entries.len()),
+        (3, 2),
+        "the counts",
+    );
+    same(rt, state.has("d/json.net/1.1.0-beta.json"), true, "a name");
+    same(rt, state.has("d/json.net/1.1.0.json"), false, "no name");
     for (entry, want) in state
         .entries
         .as_slice()
         .iter()
         .zip(&[(2, false), (1, true)])
     {
-        assert_eq!(rt; (entry.number, entry.details.listed), *want);
+        same(rt, (entry.number, entry.details.listed), *want, "an entry");
     }
 }
 
@@ -58,8 +65,25 @@ fn a_state_is_read_and_written(rt: HostRuntime) -> Result<(), Fail> {
     let text = text(alloc)?;
     let state = read_state(alloc, text.as_bytes())?;
     check(&rt, &state);
-    assert_eq!(rt; state_bytes(alloc, &state)?.as_slice(), text.as_bytes());
-    assert_eq!(rt; state_name(alloc, "json.net")?.as_str(), "s/json.net.json");
+    let bytes = state_bytes(alloc, &state)?;
+    same(&rt, bytes.as_slice(), text.as_bytes(), "the state's bytes");
+    let name = state_name(alloc, "json.net")?;
+    same(&rt, name.as_str(), "s/json.net.json", "the state's name");
+    Ok(())
+}
+
+// Asserts that a text is changed, and damaged so.
+fn is_changed(
+    rt: &impl Abort,
+    alloc: Global,
+    text: &str,
+    old: &str,
+    new: &str,
+) -> Result<(), NoMemory> {
+    let changed = text.replace(alloc, old, new)?;
+    let is_other = changed.as_str() != text;
+    let is_damaged = is_damaged(alloc, changed.as_str());
+    assert_eq!(rt; (is_other, is_damaged), (true, true), "{old}: {new}");
     Ok(())
 }
 
@@ -68,12 +92,15 @@ fn other_texts_are_damaged(rt: HostRuntime) -> Result<(), Fail> {
     let alloc = rt.alloc();
     let text = text(alloc)?;
     for (old, new) in &CHANGES {
-        let changed = text.as_str().replace(alloc, old, new)?;
-        assert!(rt; changed.as_str() != text.as_str());
-        assert!(rt; is_damaged(alloc, changed.as_str()));
+        is_changed(&rt, alloc, text.as_str(), old, new)?;
     }
     let swapped = format!(in alloc; "{HEAD}{SECOND},{FIRST}{TAIL}")?;
-    assert!(rt; is_damaged(alloc, swapped.as_str()));
-    assert!(rt; is_damaged(alloc, ""));
+    same(
+        &rt,
+        is_damaged(alloc, swapped.as_str()),
+        true,
+        "entries swapped",
+    );
+    same(&rt, is_damaged(alloc, ""), true, "no text");
     Ok(())
 }

@@ -1,5 +1,6 @@
 // Documents byte for byte.
 use crate::catalogs::{commit, details, publishes, told};
+use crate::same::same;
 use fold_core::{Commit, Item, Many, NoMemory, from_scratch};
 use reg_docs::{Plain, SemVer2};
 use std::alloc::Global;
@@ -75,9 +76,19 @@ d/foo/2.0.1.json
 // Asserts what both hives make of commits, `SemVer2` the same with addresses of its own.
 fn check(rt: &impl Abort, alloc: Global, commits: &[Commit], want: &str) -> Result<(), NoMemory> {
     let want = want.replace(alloc, "\n", "")?;
-    assert_eq!(rt; told::<Plain>(alloc, commits)?.as_str(), want.as_str());
+    same(
+        rt,
+        told::<Plain>(alloc, commits)?.as_str(),
+        want.as_str(),
+        "plain",
+    );
     let want = want.replace(alloc, "v3/registration/", "v3/registration-semver2/")?;
-    assert_eq!(rt; told::<SemVer2>(alloc, commits)?.as_str(), want.as_str());
+    same(
+        rt,
+        told::<SemVer2>(alloc, commits)?.as_str(),
+        want.as_str(),
+        "semver2",
+    );
     Ok(())
 }
 
@@ -92,21 +103,32 @@ fn the_first_publish(rt: HostRuntime) -> Result<(), Fail> {
 fn a_dependency_on_a_semver2_version(rt: HostRuntime) -> Result<(), Fail> {
     let alloc = rt.alloc();
     let commits = [publishes(alloc, 1, &[ON_SEMVER2])?];
-    assert_eq!(rt; from_scratch::<Plain>(alloc, &commits, "foo")?.len(), 0);
-    assert_eq!(rt; told::<Plain>(alloc, &commits)?.as_str(), "");
+    let entries = from_scratch::<Plain>(alloc, &commits, "foo")?.len();
+    same(&rt, entries, 0, "the plain entries");
+    same(&rt, told::<Plain>(alloc, &commits)?.as_str(), "", "plain");
     let want = DEPENDING.replace(alloc, "\n", "")?;
-    assert_eq!(rt; told::<SemVer2>(alloc, &commits)?.as_str(), want.as_str());
+    same(
+        &rt,
+        told::<SemVer2>(alloc, &commits)?.as_str(),
+        want.as_str(),
+        "semver2",
+    );
     Ok(())
+}
+
+// A commit that unlists the third publish of the first one.
+fn unlisting(alloc: Global) -> Result<Commit, NoMemory> {
+    let mut unlisted = details(alloc, LABELLED, 1, 2)?;
+    unlisted.listed = false;
+    let mut items = Many::new(alloc);
+    items.push(Item::Details(unlisted))?;
+    Ok(commit(2, items))
 }
 
 #[test]
 fn all_metadata_none_and_an_unlisting(rt: HostRuntime) -> Result<(), Fail> {
     let alloc = rt.alloc();
     let first = publishes(alloc, 1, &[BARE, WITH_ALL, LABELLED])?;
-    let mut unlisted = details(alloc, LABELLED, 1, 2)?;
-    unlisted.listed = false;
-    let mut items = Many::new(alloc);
-    items.push(Item::Details(unlisted))?;
-    check(&rt, alloc, &[first, commit(2, items)], THREE)?;
+    check(&rt, alloc, &[first, unlisting(alloc)?], THREE)?;
     Ok(())
 }
