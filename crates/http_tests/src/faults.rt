@@ -1,4 +1,5 @@
 // Reads that fail, bodies that are larger than the buffer, and a link that is read and written.
+use crate::same::same;
 use feed_base::{Bytes, Link, LinkMem};
 use http_wire::{Kind, WireErr, WireIn, read_request, response_bytes};
 use std::alloc::Global;
@@ -20,6 +21,13 @@ fn large(alloc: Global) -> Result<Bytes, Fail> {
     Ok(Bytes::of(bytes))
 }
 
+// Asserts that bytes are numbered from 0, up to 250 and again.
+fn is_numbered(rt: &impl Abort, bytes: &[u8]) {
+    for (place, byte) in bytes.iter().enumerate() {
+        same(rt, *byte as usize, place % 251, place);
+    }
+}
+
 // Asserts that the next request has this target and so many bytes of body, numbered from 0.
 fn next_is(
     rt: &impl Abort,
@@ -30,23 +38,18 @@ fn next_is(
 ) -> Result<(), Fail> {
     match read_request(alloc, wire, link) {
         Ok(request) => {
-            assert_eq!(rt; request.target.as_str(), want.0);
-            assert_eq!(rt; request.body.as_slice().len(), want.1);
-            for (place, byte) in request.body.as_slice().iter().enumerate() {
-                assert_eq!(rt; *byte as usize, place % 251);
-            }
+            same(rt, request.target.as_str(), want.0, "the target");
+            same(rt, request.body.as_slice().len(), want.1, want.0);
+            is_numbered(rt, request.body.as_slice());
         }
-        Err(error) => assert_eq!(rt; Some(error), None),
+        Err(error) => same(rt, Some(error), None, want.0),
     }
     Ok(())
 }
 
 // Asserts that no request follows, and why.
 fn none_is(rt: &impl Abort, alloc: Global, wire: &mut WireIn, link: &mut LinkMem, want: WireErr) {
-    match read_request(alloc, wire, link) {
-        Ok(_) => assert!(rt; false, "a request for {want}"),
-        Err(error) => assert_eq!(rt; error, want),
-    }
+    same(rt, read_request(alloc, wire, link).err(), Some(want), want);
 }
 
 #[test]
@@ -88,9 +91,14 @@ fn answers_a_request(rt: HostRuntime) -> Result<(), Fail> {
     )?;
     let body = b"{\"versions\":[\"1.0.0\"]}";
     let answer = response_bytes(alloc, 200, Kind::Json, None, false, body)?;
-    assert!(rt; link.write(answer.as_slice()).is_ok());
-    assert!(rt; link.write(answer.as_slice()).is_err());
-    assert_eq!(rt; link.bytes(), ANSWER);
+    same(&rt, link.write(answer.as_slice()).is_ok(), true, "a write");
+    same(
+        &rt,
+        link.write(answer.as_slice()).is_ok(),
+        false,
+        "a write that fails",
+    );
+    same(&rt, link.bytes(), ANSWER, "all that is written");
     none_is(&rt, alloc, &mut wire, &mut link, WireErr::Closed);
     Ok(())
 }

@@ -13,6 +13,8 @@ mod limits;
 #[cfg(test)]
 mod replies;
 mod row;
+#[cfg(test)]
+mod same;
 mod told;
 
 use cut_link::{CutLink, Cuts};
