@@ -1,4 +1,5 @@
 // The documents of cursors, and what isn't one.
+use crate::same::same;
 use cursor_doc::{DocErr, Mark, cursor_bytes, read_cursor};
 use pkg_meta::Ticks;
 use std::test::Fail;
@@ -27,15 +28,19 @@ const WRITTEN: [(u32, u64, &str); 4] = [
     ),
 ];
 
+fn mark_of(number: u32, tick: u64) -> Result<Mark, Fail> {
+    let stamp = Ticks::of(tick).ok_or("no moment")?;
+    Ok(Mark { number, stamp })
+}
+
 #[test]
 fn writes_and_reads_back(rt: HostRuntime) -> Result<(), Fail> {
     let alloc = rt.alloc();
-    for (number, tick, text) in WRITTEN {
-        let stamp = Ticks::of(tick).ok_or("no moment")?;
-        let mark = Mark { number, stamp };
+    for (number, tick, text) in &WRITTEN {
+        let mark = mark_of(*number, *tick)?;
         let bytes = cursor_bytes(alloc, &mark)?;
-        assert_eq!(rt; bytes.as_slice(), text.as_bytes(), "{number}");
-        assert_eq!(rt; read_cursor(alloc, text.as_bytes()), Ok(mark), "{text}");
+        same(&rt, bytes.as_slice(), text.as_bytes(), *number);
+        same(&rt, read_cursor(alloc, text.as_bytes()), Ok(mark), *text);
     }
     Ok(())
 }
@@ -88,11 +93,8 @@ const DAMAGED: [(&str, &str); 12] = [
 
 #[test]
 fn tells_what_is_damaged(rt: HostRuntime) {
-    for (why, text) in DAMAGED {
-        assert_eq!(rt;
-            read_cursor(rt.alloc(), text.as_bytes()),
-            Err(DocErr::Damaged),
-            "{why}"
-        );
+    for (why, text) in &DAMAGED {
+        let read = read_cursor(rt.alloc(), text.as_bytes());
+        same(&rt, read, Err(DocErr::Damaged), *why);
     }
 }

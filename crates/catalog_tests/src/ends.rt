@@ -1,8 +1,9 @@
 // Commits at the end of a page and at the limit of an id, and openings, of which each call fails in turn.
 use crate::copies::{Document, copied, documents, failing};
 use crate::feeds::{START, empty, one, opened, publish, publishes, told};
-use crate::limits::{PAGES, committed, exchange, page_line};
+use crate::limits::{PAGES, check_lines, committed, exchange};
 use crate::openings::{INDEX, INDEX_OF_NONE, PAGE, holds};
+use crate::same::same;
 use blob_store::{Blobs, Fail as Fault, MemBlobs};
 use catalog_core::{Catalog, OpenErr, open_catalog};
 use pkg_meta::NoMemory;
@@ -62,11 +63,23 @@ fn check_pages(
     let mut catalog = copied(alloc, before, fails)?;
     fill_up(alloc, &mut catalog)?;
     let (count, mut catalog) = commits_found(alloc, catalog.into_area())?;
-    assert_eq!(rt; count, Some(wanted));
-    for (page, line) in (0u32..3).zip(&PAGES) {
-        assert_eq!(rt; page_line(alloc, &mut catalog, page)?.as_str(), *line);
-    }
-    Ok(())
+    same(rt, count, Some(wanted), "the number of commits");
+    check_lines(rt, alloc, &mut catalog, &PAGES)
+}
+
+// The same where one call fails, and where it and all behind it do.
+fn check_call(
+    rt: &impl Abort,
+    alloc: Global,
+    before: &[Document],
+    call: u64,
+    took: bool,
+) -> Result<(), NoMemory> {
+    let wanted = commits_wanted(call, took);
+    let once = failing(alloc, call, call, took)?;
+    check_pages(rt, alloc, before, &once, wanted)?;
+    let long = failing(alloc, call, 48, took)?;
+    check_pages(rt, alloc, before, &long, wanted)
 }
 
 // The last get of the opening; the first put of the commit of 12, its last leaf, its page and its index; and the first put
@@ -78,13 +91,8 @@ fn stops_at_the_end_of_a_page(rt: HostRuntime) -> Result<(), Fail> {
     let alloc = rt.alloc();
     let before = of_500(alloc)?;
     for call in &CALLS {
-        for took in [false, true] {
-            let wanted = commits_wanted(*call, took);
-            let once = failing(alloc, *call, *call, took)?;
-            check_pages(&rt, alloc, &before, &once, wanted)?;
-            let long = failing(alloc, *call, 48, took)?;
-            check_pages(&rt, alloc, &before, &long, wanted)?;
-        }
+        check_call(&rt, alloc, &before, *call, false)?;
+        check_call(&rt, alloc, &before, *call, true)?;
     }
     Ok(())
 }
@@ -128,10 +136,11 @@ fn stops_at_the_limit_of_an_id(rt: HostRuntime) -> Result<(), Fail> {
     let before = of_2048(alloc)?;
     for (first, last, took, wanted) in &AT_THE_LIMIT {
         let fails = failing(alloc, *first, *last, *took)?;
-        assert_eq!(rt;
+        same(
+            &rt,
             told_behind(alloc, &before, &fails)?.as_str(),
             *wanted,
-            "{first}"
+            *first,
         );
     }
     Ok(())
@@ -187,38 +196,46 @@ const STOPPED: [(u64, u64, &str); 6] = [
     (6, 6, "opened, the store failed, true"),
 ];
 
+// Asserts what two openings of a store with this index answer where the calls from one to another fail.
+fn check_openings(
+    rt: &impl Abort,
+    alloc: Global,
+    index: &str,
+    calls: (u64, u64),
+    took: bool,
+    line: &str,
+) -> Result<(), NoMemory> {
+    let (first, last) = calls;
+    let fails = failing(alloc, first, last, took)?;
+    let told = two_openings(alloc, index, PAGE, &fails)?;
+    assert_eq!(rt; told.as_str(), line, "calls {first} to {last}, {took}");
+    Ok(())
+}
+
 #[test]
 fn stopped_openings_are_begun_again(rt: HostRuntime) -> Result<(), Fail> {
     let alloc = rt.alloc();
     for (first, last, line) in &STOPPED {
-        let fails = failing(alloc, *first, *last, false)?;
-        assert_eq!(rt;
-            two_openings(alloc, INDEX_OF_NONE, PAGE, &fails)?.as_str(),
-            *line
-        );
+        check_openings(&rt, alloc, INDEX_OF_NONE, (*first, *last), false, line)?;
     }
-    let fails = failing(alloc, 5, 5, true)?;
-    assert_eq!(rt;
-        two_openings(alloc, INDEX_OF_NONE, PAGE, &fails)?.as_str(),
-        "the store failed, opened, true"
-    );
+    let line = "the store failed, opened, true";
+    check_openings(&rt, alloc, INDEX_OF_NONE, (5, 5), true, line)?;
     Ok(())
 }
 
-// Of an index that is cut a fault is told where there was one, and else that it is damaged.
+// Where the third call fails, or each from it on: of an index that is cut a fault is told where there was one, and else that
+// it is damaged.
+const CUT: [(u64, &str); 2] = [
+    (3, "the store failed, index.json is damaged, false"),
+    (9, "the store failed, the store failed, false"),
+];
+
 #[test]
 fn a_cut_index_is_never_opened(rt: HostRuntime) -> Result<(), Fail> {
     let alloc = rt.alloc();
     let cut = INDEX.strip_suffix('}').ok_or("no end")?;
-    let once = failing(alloc, 3, 3, false)?;
-    assert_eq!(rt;
-        two_openings(alloc, cut, PAGE, &once)?.as_str(),
-        "the store failed, index.json is damaged, false"
-    );
-    let long = failing(alloc, 3, 9, false)?;
-    assert_eq!(rt;
-        two_openings(alloc, cut, PAGE, &long)?.as_str(),
-        "the store failed, the store failed, false"
-    );
+    for (last, line) in &CUT {
+        check_openings(&rt, alloc, cut, (3, *last), false, line)?;
+    }
     Ok(())
 }

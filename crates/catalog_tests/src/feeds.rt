@@ -48,7 +48,8 @@ pub fn publish(alloc: Global, id: &str, version: &str) -> Result<Change, NoMemor
     })
 }
 
-fn pair(alloc: Global, id: &str, version: &str) -> Result<(PackageId, Version), NoMemory> {
+/// An id and a version.
+pub fn pair(alloc: Global, id: &str, version: &str) -> Result<(PackageId, Version), NoMemory> {
     let id = PackageId::read(alloc, id)?;
     let version = Version::read(alloc, version)?;
     match (id, version) {

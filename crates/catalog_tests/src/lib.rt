@@ -20,4 +20,6 @@ mod reads;
 #[cfg(test)]
 mod rows;
 #[cfg(test)]
+mod same;
+#[cfg(test)]
 mod stops;

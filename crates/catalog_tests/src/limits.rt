@@ -1,10 +1,12 @@
 // Commits at the limits of ids, pages, lists and moments.
 use crate::feeds::{BASE, START, delete, empty, one, publish, publishes, relisting, told};
+use crate::same::same;
 use blob_store::MemBlobs;
 use catalog_core::{Catalog, Changes};
 use catalog_reading::read_page;
 use pkg_meta::{Many, NoMemory};
 use std::alloc::Global;
+use std::process::Abort;
 use std::test::Fail;
 
 // Commits so many lists of 64 publishes each, and answers how many were committed.
@@ -32,20 +34,42 @@ pub fn exchange(alloc: Global) -> Result<Changes, NoMemory> {
     Ok(changes)
 }
 
+// Asserts what a commit is told.
+fn check_told(
+    rt: &impl Abort,
+    alloc: Global,
+    catalog: &mut Catalog<MemBlobs>,
+    changes: &Changes,
+    now: u64,
+    line: &str,
+) -> Result<(), NoMemory> {
+    same(rt, told(alloc, catalog, changes, now)?.as_str(), line, line);
+    Ok(())
+}
+
 #[test]
 fn an_id_has_2048_live_versions(rt: HostRuntime) -> Result<(), Fail> {
     let alloc = rt.alloc();
     let mut catalog = empty(alloc, &[])?;
-    assert_eq!(rt; committed(alloc, &mut catalog, 32)?, 32);
+    same(&rt, committed(alloc, &mut catalog, 32)?, 32, "the lists");
     let more = one(alloc, publish(alloc, "foo", "2.0.0")?)?;
-    assert_eq!(rt;
-        told(alloc, &mut catalog, &more, START)?.as_str(),
-        "the id of the publish at place 0 has 2048 versions"
-    );
-    assert_eq!(rt;
-        told(alloc, &mut catalog, &exchange(alloc)?, START)?.as_str(),
-        "committed 33 2024-01-01T00:00:00.0000032Z"
-    );
+    check_told(
+        &rt,
+        alloc,
+        &mut catalog,
+        &more,
+        START,
+        "the id of the publish at place 0 has 2048 versions",
+    )?;
+    let exchange = exchange(alloc)?;
+    check_told(
+        &rt,
+        alloc,
+        &mut catalog,
+        &exchange,
+        START,
+        "committed 33 2024-01-01T00:00:00.0000032Z",
+    )?;
     Ok(())
 }
 
@@ -69,22 +93,41 @@ pub fn page_line(
 // Pages 0, 1 and 2 behind 500 items in 8 commits, a commit of 12, and one of 1.
 pub const PAGES: [&str; 3] = ["512 rows up to commit 9", "1 rows up to commit 10", "none"];
 
+// Asserts what the first three pages have.
+pub fn check_lines(
+    rt: &impl Abort,
+    alloc: Global,
+    catalog: &mut Catalog<MemBlobs>,
+    lines: &[&str; 3],
+) -> Result<(), NoMemory> {
+    for (page, line) in (0u32..3).zip(lines) {
+        same(rt, page_line(alloc, catalog, page)?.as_str(), *line, page);
+    }
+    Ok(())
+}
+
+// Commits 448 publishes in lists of 64, and then so many in each of further lists.
+fn fill(
+    rt: &impl Abort,
+    alloc: Global,
+    catalog: &mut Catalog<MemBlobs>,
+    lists: &[(u32, u32)],
+) -> Result<(), NoMemory> {
+    same(rt, committed(alloc, catalog, 7)?, 7, "the lists of 64");
+    for (first, count) in lists {
+        let changes = publishes(alloc, *first, *count)?;
+        let line = told(alloc, catalog, &changes, START)?;
+        same(rt, line.starts_with("committed"), true, *first);
+    }
+    Ok(())
+}
+
 #[test]
 fn a_page_has_512_items(rt: HostRuntime) -> Result<(), Fail> {
     let alloc = rt.alloc();
     let mut catalog = empty(alloc, &[])?;
-    assert_eq!(rt; committed(alloc, &mut catalog, 7)?, 7);
-    for (first, count) in &[(448, 52), (500, 12), (512, 1)] {
-        let changes = publishes(alloc, *first, *count)?;
-        assert!(rt; told(alloc, &mut catalog, &changes, START)?.starts_with("committed"));
-    }
-    for (page, line) in (0u32..3).zip(&PAGES) {
-        assert_eq!(rt;
-            page_line(alloc, &mut catalog, page)?.as_str(),
-            *line,
-            "page {page}"
-        );
-    }
+    fill(&rt, alloc, &mut catalog, &[(448, 52), (500, 12), (512, 1)])?;
+    check_lines(&rt, alloc, &mut catalog, &PAGES)?;
     Ok(())
 }
 
@@ -95,18 +138,8 @@ const WHOLE: [&str; 3] = ["500 rows up to commit 8", "13 rows up to commit 9", "
 fn a_commit_stands_on_one_page(rt: HostRuntime) -> Result<(), Fail> {
     let alloc = rt.alloc();
     let mut catalog = empty(alloc, &[])?;
-    assert_eq!(rt; committed(alloc, &mut catalog, 7)?, 7);
-    for (first, count) in &[(448, 52), (500, 13)] {
-        let changes = publishes(alloc, *first, *count)?;
-        assert!(rt; told(alloc, &mut catalog, &changes, START)?.starts_with("committed"));
-    }
-    for (page, line) in (0u32..3).zip(&WHOLE) {
-        assert_eq!(rt;
-            page_line(alloc, &mut catalog, page)?.as_str(),
-            *line,
-            "page {page}"
-        );
-    }
+    fill(&rt, alloc, &mut catalog, &[(448, 52), (500, 13)])?;
+    check_lines(&rt, alloc, &mut catalog, &WHOLE)?;
     Ok(())
 }
 
@@ -131,13 +164,18 @@ fn stamps_rise_to_the_last_moment(rt: HostRuntime) -> Result<(), Fail> {
     let mut catalog = empty(alloc, &[])?;
     for (turn, (now, line)) in (0u32..4).zip(&MOMENTS) {
         let changes = publishes(alloc, turn, 1)?;
-        assert_eq!(rt; told(alloc, &mut catalog, &changes, *now)?.as_str(), *line);
+        let said = told(alloc, &mut catalog, &changes, *now)?;
+        same(&rt, said.as_str(), *line, turn);
     }
     let listed = one(alloc, relisting(alloc, "Foo", "1.0.2")?)?;
-    assert_eq!(rt;
-        told(alloc, &mut catalog, &listed, START)?.as_str(),
-        "the last stamp is the calendar's last moment"
-    );
+    check_told(
+        &rt,
+        alloc,
+        &mut catalog,
+        &listed,
+        START,
+        "the last stamp is the calendar's last moment",
+    )?;
     Ok(())
 }
 
@@ -146,9 +184,13 @@ fn a_commit_has_64_changes(rt: HostRuntime) -> Result<(), Fail> {
     let alloc = rt.alloc();
     let mut catalog = empty(alloc, &[])?;
     let changes = publishes(alloc, 0, 65)?;
-    assert_eq!(rt;
-        told(alloc, &mut catalog, &changes, START)?.as_str(),
-        "there are 65 changes, and a commit takes 64 at the most"
-    );
+    check_told(
+        &rt,
+        alloc,
+        &mut catalog,
+        &changes,
+        START,
+        "there are 65 changes, and a commit takes 64 at the most",
+    )?;
     Ok(())
 }

@@ -54,6 +54,16 @@ fn known_line(alloc: Global, known: &Result<Known, OpenErr>) -> Result<String, A
     }
 }
 
+// What an opening tells.
+fn opened_line(
+    alloc: Global,
+    area: &mut MemBlobs,
+    base: Option<&str>,
+) -> Result<String, AllocError> {
+    let known = read_catalog(alloc, area, base);
+    known_line(alloc, &known)
+}
+
 /// Whether the blob of this name is this text.
 pub fn holds(alloc: Global, area: &mut MemBlobs, name: &str, text: &str) -> bool {
     match area.get(alloc, name) {
@@ -67,7 +77,7 @@ fn areas_are_opened(rt: HostRuntime) -> Result<(), Fail> {
     let (alloc, mut told) = (rt.alloc(), String::new(rt.alloc()));
     for texts in &AREAS {
         let mut area = store(alloc, texts)?;
-        let line = known_line(alloc, &read_catalog(alloc, &mut area, None))?;
+        let line = opened_line(alloc, &mut area, None)?;
         let index = holds(alloc, &mut area, "index.json", INDEX);
         told.push_str(&format!(in alloc; "{line}, {index}\n")?)?;
     }
@@ -78,8 +88,7 @@ fn areas_are_opened(rt: HostRuntime) -> Result<(), Fail> {
 #[test]
 fn another_base_address_is_told(rt: HostRuntime) -> Result<(), Fail> {
     let mut area = store(rt.alloc(), &[INDEX, PAGE])?;
-    let known = read_catalog(rt.alloc(), &mut area, Some("http://g.test/"));
-    let line = known_line(rt.alloc(), &known)?;
+    let line = opened_line(rt.alloc(), &mut area, Some("http://g.test/"))?;
     assert_eq!(rt;
         line.as_str(),
         "the catalog's base address is http://f.test/, and not http://g.test/"
@@ -107,8 +116,8 @@ fn another_base_address_is_told_behind_the_index(rt: HostRuntime) -> Result<(), 
     let alloc = rt.alloc();
     for (texts, line) in &OF_ANOTHER {
         let mut area = store(alloc, texts)?;
-        let known = read_catalog(alloc, &mut area, Some("http://g.test/"));
-        assert_eq!(rt; known_line(alloc, &known)?.as_str(), *line);
+        let told = opened_line(alloc, &mut area, Some("http://g.test/"))?;
+        assert_eq!(rt; told.as_str(), *line);
     }
     Ok(())
 }
@@ -126,8 +135,7 @@ fn a_stopped_commit_is_settled(rt: HostRuntime) -> Result<(), Fail> {
 fn an_index_without_its_last_byte_is_damaged(rt: HostRuntime) -> Result<(), Fail> {
     let cut = INDEX.strip_suffix('}').ok_or("no end")?;
     let mut area = store(rt.alloc(), &[cut, PAGE])?;
-    let known = read_catalog(rt.alloc(), &mut area, None);
-    let line = known_line(rt.alloc(), &known)?;
+    let line = opened_line(rt.alloc(), &mut area, None)?;
     assert_eq!(rt; line.as_str(), "index.json is damaged");
     Ok(())
 }

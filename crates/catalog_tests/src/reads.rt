@@ -1,8 +1,9 @@
 // What is read of an open catalog behind a publish and an unlisting.
 use crate::feeds::{START, empty, one, publish, told, unlisting};
+use crate::same::same;
 use blob_store::MemBlobs;
 use catalog_core::Catalog;
-use pkg_meta::Item;
+use pkg_meta::{Item, NoMemory};
 use std::alloc::Global;
 use std::test::Fail;
 
@@ -21,19 +22,40 @@ fn rows_above(alloc: Global, catalog: &mut Catalog<MemBlobs>, cursor: u32) -> Op
     }
 }
 
-#[test]
-fn a_catalog_is_read(rt: HostRuntime) -> Result<(), Fail> {
-    let alloc = rt.alloc();
+// A catalog of a publish and an unlisting.
+fn catalog_of_two(alloc: Global) -> Result<Catalog<MemBlobs>, NoMemory> {
     let mut catalog = empty(alloc, &[])?;
     let first = one(alloc, publish(alloc, "Foo", "1.0.0")?)?;
     let _first = told(alloc, &mut catalog, &first, START)?;
     let second = one(alloc, unlisting(alloc, "foo", "1.0.0")?)?;
     let _second = told(alloc, &mut catalog, &second, START)?;
-    assert!(rt; catalog.count(alloc).is_ok_and(|count| count == 2));
-    assert_eq!(rt; rows_above(alloc, &mut catalog, 0), Some(2));
-    assert_eq!(rt; rows_above(alloc, &mut catalog, 1), Some(1));
-    assert_eq!(rt; is_listed(alloc, &mut catalog, 1), Some(true));
-    assert_eq!(rt; is_listed(alloc, &mut catalog, 2), Some(false));
-    assert_eq!(rt; is_listed(alloc, &mut catalog, 3), None);
+    Ok(catalog)
+}
+
+#[test]
+fn a_catalog_is_read(rt: HostRuntime) -> Result<(), Fail> {
+    let alloc = rt.alloc();
+    let mut catalog = catalog_of_two(alloc)?;
+    same(&rt, catalog.count(alloc).ok(), Some(2), "the commits");
+    same(&rt, rows_above(alloc, &mut catalog, 0), Some(2), "all rows");
+    same(
+        &rt,
+        rows_above(alloc, &mut catalog, 1),
+        Some(1),
+        "the rows above 1",
+    );
+    same(
+        &rt,
+        is_listed(alloc, &mut catalog, 1),
+        Some(true),
+        "the publish",
+    );
+    same(
+        &rt,
+        is_listed(alloc, &mut catalog, 2),
+        Some(false),
+        "the unlisting",
+    );
+    same(&rt, is_listed(alloc, &mut catalog, 3), None, "no commit");
     Ok(())
 }

@@ -1,7 +1,7 @@
 // The rows of the first publish, and those of a delete behind them.
 ghost use Rattle.std.specs.Prelude.{◌≡◌, IfOk, length};
 
-use crate::feeds::{one, publish};
+use crate::feeds::{one, pair, publish};
 use crate::openings::{INDEX, PAGE, store};
 use catalog_doc::{Change, CommitErr, Row};
 use catalog_opening::read_catalog;
@@ -59,10 +59,16 @@ fn last_number(
     Ok(rows.last(alloc, id, version)?.map_or(0, |row| row.number))
 }
 
+// Why a publish of the same version is refused.
+fn reason(alloc: Global, rows: &Rows) -> Result<String, NoMemory> {
+    let changes = one(alloc, publish(alloc, "foo", "1.0")?)?;
+    let reason = refusal(alloc, rows, changes.as_slice())?;
+    Ok(reason_line(alloc, &reason)?)
+}
+
 fn line(alloc: Global, rows: &Rows, id: &PackageId, version: &Version) -> Result<String, NoMemory> {
     let last = last_number(alloc, rows, id, version)?;
-    let changes = one(alloc, publish(alloc, "foo", "1.0")?)?;
-    let why = reason_line(alloc, &refusal(alloc, rows, changes.as_slice())?)?;
+    let why = reason(alloc, rows)?;
     let (live, count, page) = (rows.live(id), rows.len(), rows.last_page().len());
     Ok(format!(in alloc;
         "{last} {live} {count} {page} {why}, {}\n",
@@ -70,16 +76,20 @@ fn line(alloc: Global, rows: &Rows, id: &PackageId, version: &Version) -> Result
     )?)
 }
 
+// The rows of an area that holds the first publish.
+fn rows_of_first(alloc: Global) -> Result<Rows, NoMemory> {
+    let mut area = store(alloc, &[INDEX, PAGE])?;
+    match read_catalog(alloc, &mut area, None) {
+        Ok(known) => Rows::of(alloc, known.rows, known.pages),
+        Err(_) => Err(NoMemory),
+    }
+}
+
 #[test]
 fn rows_follow_commits(rt: HostRuntime) -> Result<(), Fail> {
     let alloc = rt.alloc();
-    let mut area = store(alloc, &[INDEX, PAGE])?;
-    let Ok(known) = read_catalog(alloc, &mut area, None) else {
-        return Err(Fail::from(NoMemory));
-    };
-    let mut rows = Rows::of(alloc, known.rows, known.pages)?;
-    let id = PackageId::read(alloc, "FOO")?.expect(&rt, "an id");
-    let version = Version::read(alloc, "1.0.0")?.expect(&rt, "a version");
+    let mut rows = rows_of_first(alloc)?;
+    let (id, version) = pair(alloc, "FOO", "1.0.0")?;
     let mut told = line(alloc, &rows, &id, &version)?;
     rows.add(alloc, delete(alloc, &id, &version)?)?;
     told.push_str(&line(alloc, &rows, &id, &version)?)?;

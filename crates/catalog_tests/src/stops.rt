@@ -1,10 +1,12 @@
 // Commits that a failing call stops, and what an opening then finds.
 use crate::copies::failing;
 use crate::feeds::{START, delete, empty, one, opened, publish, told, unlisting};
+use crate::same::same;
 use blob_store::{Fail as Fault, MemBlobs};
 use catalog_core::{Catalog, Changes, ReadErr, Row};
-use pkg_meta::{Item, Many, NoMemory};
+use pkg_meta::{Bytes, Item, Many, NoMemory};
 use std::alloc::{AllocError, Global};
+use std::process::Abort;
 use std::test::Fail;
 
 const INDEX_OF_TWO: &str =
@@ -20,25 +22,25 @@ fn two_publishes(alloc: Global, catalog: &mut Catalog<MemBlobs>) -> Result<Strin
     Ok(line)
 }
 
+fn index_of(alloc: Global, catalog: &mut Catalog<MemBlobs>) -> Result<Bytes, Fail> {
+    match catalog.doc(alloc, "index.json") {
+        Ok(Some(index)) => Ok(index),
+        _ => Err(Fail::from("no index")),
+    }
+}
+
 // The opening's two calls, and each publish's five: the second one's index is the twelfth.
 #[test]
 fn an_index_that_lags_is_put_again(rt: HostRuntime) -> Result<(), Fail> {
     let alloc = rt.alloc();
-    let fails = [Fault {
-        call: 12,
-        took: false,
-    }];
+    let fails = failing(alloc, 12, 12, false)?;
     let mut catalog = empty(alloc, &fails)?;
-    assert_eq!(rt;
-        two_publishes(alloc, &mut catalog)?.as_str(),
-        "the store failed"
-    );
+    let line = two_publishes(alloc, &mut catalog)?;
+    same(&rt, line.as_str(), "the store failed", "the second commit");
     let mut catalog = opened(alloc, catalog.into_area()).ok_or("not opened")?;
-    assert!(rt; catalog.count(alloc).is_ok_and(|count| count == 2));
-    let Ok(Some(index)) = catalog.doc(alloc, "index.json") else {
-        return Err(Fail::from("no index"));
-    };
-    assert_eq!(rt; index.as_slice(), INDEX_OF_TWO.as_bytes());
+    same(&rt, catalog.count(alloc).ok(), Some(2), "the commits");
+    let index = index_of(alloc, &mut catalog)?;
+    same(&rt, index.as_slice(), INDEX_OF_TWO.as_bytes(), "the index");
     Ok(())
 }
 
@@ -131,18 +133,26 @@ const STOPS: [(u64, bool, &str); 18] = [
     (19, true, WITH),
 ];
 
+// Asserts what is found where the calls from one to another fail.
+fn finds(
+    rt: &impl Abort,
+    alloc: Global,
+    calls: (u64, u64),
+    took: bool,
+    text: &str,
+) -> Result<(), NoMemory> {
+    let (first, last) = calls;
+    let fails = failing(alloc, first, last, took)?;
+    let found = found(alloc, &fails)?;
+    assert_eq!(rt; found.as_str(), text, "calls {first} to {last}, {took}");
+    Ok(())
+}
+
 #[test]
 fn a_stopped_commit_is_there_or_not(rt: HostRuntime) -> Result<(), Fail> {
-    let alloc = rt.alloc();
     for (call, took, text) in &STOPS {
-        let once = failing(alloc, *call, *call, *took)?;
-        assert_eq!(rt; found(alloc, &once)?.as_str(), *text, "call {call}, {took}");
-        let long = failing(alloc, *call, 24, *took)?;
-        assert_eq!(rt;
-            found(alloc, &long)?.as_str(),
-            *text,
-            "from call {call}, {took}"
-        );
+        finds(&rt, rt.alloc(), (*call, *call), *took, text)?;
+        finds(&rt, rt.alloc(), (*call, 24), *took, text)?;
     }
     Ok(())
 }
