@@ -1,5 +1,6 @@
 // Rounds whose store calls fail, one by one, and the rounds behind them.
 use crate::rounds::{BASE, delete, documents, is_held, number_of, publish_all};
+use crate::same::same;
 use auto_docs::Auto;
 use blob_store::{Fail as Failing, MemBlobs};
 use catalog_core::{Catalog, init};
@@ -73,17 +74,37 @@ fn all_end<H: Hive>(alloc: Global, calls: u64, took: bool, wanted: usize) -> boo
 #[test]
 fn a_failed_call_is_made_good(rt: HostRuntime) -> Result<(), Fail> {
     let alloc = rt.alloc();
-    assert!(rt; all_end::<Plain>(alloc, 1, false, 4));
-    assert!(rt; all_end::<Plain>(alloc, 1, true, 4));
-    assert!(rt; all_end::<Content>(alloc, 1, false, 7));
-    assert!(rt; all_end::<Auto>(alloc, 1, true, 1));
+    same(
+        &rt,
+        all_end::<Plain>(alloc, 1, false, 4),
+        true,
+        "plain, without effect",
+    );
+    same(
+        &rt,
+        all_end::<Plain>(alloc, 1, true, 4),
+        true,
+        "plain, with effect",
+    );
+    same(&rt, all_end::<Content>(alloc, 1, false, 7), true, "content");
+    same(&rt, all_end::<Auto>(alloc, 1, true, 1), true, "auto");
     Ok(())
 }
 
 #[test]
 fn failed_calls_from_one_on_are_made_good(rt: HostRuntime) -> Result<(), Fail> {
     let alloc = rt.alloc();
-    assert!(rt; all_end::<Plain>(alloc, 12, false, 4));
-    assert!(rt; all_end::<Plain>(alloc, 12, true, 4));
+    same(
+        &rt,
+        all_end::<Plain>(alloc, 12, false, 4),
+        true,
+        "without effect",
+    );
+    same(
+        &rt,
+        all_end::<Plain>(alloc, 12, true, 4),
+        true,
+        "with effect",
+    );
     Ok(())
 }

@@ -14,6 +14,8 @@ mod random;
 #[cfg(test)]
 mod rounds;
 #[cfg(test)]
+mod same;
+#[cfg(test)]
 mod stops;
 #[cfg(test)]
 mod walks;

@@ -1,4 +1,5 @@
 // Rounds behind publishes and deletes of one package.
+use crate::same::same;
 use blob_store::{Blobs, MemBlobs};
 use catalog_core::{Catalog, Change, CommitErr, init};
 use flat_container::Content;
@@ -8,6 +9,7 @@ use job_round::run_round;
 use pkg_meta::{Bytes, Many, Meta, NoMemory, PackageId, Ticks, Version};
 use reg_docs::Plain;
 use std::alloc::Global;
+use std::process::Abort;
 use std::test::Fail;
 
 pub const BASE: &str = "http://f.test/";
@@ -112,98 +114,116 @@ pub fn is_held(alloc: Global, area: &mut MemBlobs, name: &str) -> bool {
     matches!(area.get(alloc, name), Ok(Some(_)))
 }
 
+// The catalog of no commits.
+pub fn made(alloc: Global) -> Result<Catalog<MemBlobs>, NoMemory> {
+    match init(alloc, MemBlobs::new(alloc), BASE) {
+        Ok(catalog) => Ok(catalog),
+        Err(_) => Err(NoMemory),
+    }
+}
+
+// Asserts that a round is done at this commit, and that so many documents are held behind it.
+fn takes_up<H: Hive>(
+    rt: &impl Abort,
+    alloc: Global,
+    catalog: &mut Catalog<MemBlobs>,
+    area: &mut MemBlobs,
+    number: u32,
+    count: usize,
+) {
+    let out = run_round::<H, MemBlobs>(alloc, catalog, area);
+    same(rt, is_done(out, number), true, number);
+    same(
+        rt,
+        documents::<H>(alloc, catalog, area),
+        Some(count),
+        number,
+    );
+}
+
+// Asserts that there is nothing to do behind this commit.
+fn is_idle_at(
+    rt: &impl Abort,
+    alloc: Global,
+    catalog: &mut Catalog<MemBlobs>,
+    area: &mut MemBlobs,
+    number: u32,
+) {
+    let out = run_round::<Plain, MemBlobs>(alloc, catalog, area);
+    same(rt, is_idle(out, number), true, number);
+}
+
+// Asserts that these versions are published, one commit each.
+fn are_published(
+    rt: &impl Abort,
+    alloc: Global,
+    catalog: &mut Catalog<MemBlobs>,
+    minors: std::ops::Range<u32>,
+) {
+    let first = minors.start;
+    same(rt, publish_all(alloc, catalog, minors).is_ok(), true, first);
+}
+
+// Asserts that a version is deleted by a commit of this number.
+fn is_deleted(
+    rt: &impl Abort,
+    alloc: Global,
+    catalog: &mut Catalog<MemBlobs>,
+    minor: u32,
+    number: u32,
+) -> Result<(), NoMemory> {
+    let change = delete(alloc, minor)?;
+    same(
+        rt,
+        number_of(alloc, catalog, change).ok(),
+        Some(number),
+        minor,
+    );
+    Ok(())
+}
+
+// Asserts whether the area holds this name.
+fn check_held(rt: &impl Abort, alloc: Global, area: &mut MemBlobs, name: &str, want: bool) {
+    same(rt, is_held(alloc, area, name), want, name);
+}
+
 #[test]
 fn pages_are_cut_again(rt: HostRuntime) -> Result<(), Fail> {
     let alloc = rt.alloc();
-    let Ok(mut catalog) = init(alloc, MemBlobs::new(alloc), BASE) else {
-        return Err(Fail::from(NoMemory));
-    };
+    let mut catalog = made(alloc)?;
     let mut area = MemBlobs::new(alloc);
-    assert!(rt;
-        is_idle(
-            run_round::<Plain, MemBlobs>(alloc, &mut catalog, &mut area),
-            0
-        )
+    is_idle_at(&rt, alloc, &mut catalog, &mut area, 0);
+    are_published(&rt, alloc, &mut catalog, 0..64);
+    are_published(&rt, alloc, &mut catalog, 65..128);
+    takes_up::<Plain>(&rt, alloc, &mut catalog, &mut area, 127, 128);
+    are_published(&rt, alloc, &mut catalog, 64..65);
+    takes_up::<Plain>(&rt, alloc, &mut catalog, &mut area, 128, 131);
+    check_held(&rt, alloc, &mut area, "d/foo/page/1.0.0/1.63.0.json", true);
+    check_held(
+        &rt,
+        alloc,
+        &mut area,
+        "d/foo/page/1.64.0/1.127.0.json",
+        true,
     );
-    assert!(rt; publish_all(alloc, &mut catalog, 0..64).is_ok());
-    assert!(rt; publish_all(alloc, &mut catalog, 65..128).is_ok());
-    assert!(rt;
-        is_done(
-            run_round::<Plain, MemBlobs>(alloc, &mut catalog, &mut area),
-            127
-        )
-    );
-    assert_eq!(rt;
-        documents::<Plain>(alloc, &mut catalog, &mut area),
-        Some(128)
-    );
-    assert!(rt; publish_all(alloc, &mut catalog, 64..65).is_ok());
-    assert!(rt;
-        is_done(
-            run_round::<Plain, MemBlobs>(alloc, &mut catalog, &mut area),
-            128
-        )
-    );
-    assert_eq!(rt;
-        documents::<Plain>(alloc, &mut catalog, &mut area),
-        Some(131)
-    );
-    assert!(rt; is_held(alloc, &mut area, "d/foo/page/1.0.0/1.63.0.json"));
-    assert!(rt; is_held(alloc, &mut area, "d/foo/page/1.64.0/1.127.0.json"));
-    let change = delete(alloc, 5)?;
-    assert!(rt; number_of(alloc, &mut catalog, change).is_ok_and(|number| number == 129));
-    assert!(rt;
-        is_done(
-            run_round::<Plain, MemBlobs>(alloc, &mut catalog, &mut area),
-            129
-        )
-    );
-    assert_eq!(rt;
-        documents::<Plain>(alloc, &mut catalog, &mut area),
-        Some(128)
-    );
-    assert!(rt; !is_held(alloc, &mut area, "d/foo/page/1.0.0/1.63.0.json"));
-    assert!(rt; !is_held(alloc, &mut area, "d/foo/1.5.0.json"));
-    assert!(rt;
-        is_idle(
-            run_round::<Plain, MemBlobs>(alloc, &mut catalog, &mut area),
-            129
-        )
-    );
+    is_deleted(&rt, alloc, &mut catalog, 5, 129)?;
+    takes_up::<Plain>(&rt, alloc, &mut catalog, &mut area, 129, 128);
+    check_held(&rt, alloc, &mut area, "d/foo/page/1.0.0/1.63.0.json", false);
+    check_held(&rt, alloc, &mut area, "d/foo/1.5.0.json", false);
+    is_idle_at(&rt, alloc, &mut catalog, &mut area, 129);
     Ok(())
 }
 
 #[test]
 fn a_package_goes(rt: HostRuntime) -> Result<(), Fail> {
     let alloc = rt.alloc();
-    let Ok(mut catalog) = init(alloc, MemBlobs::new(alloc), BASE) else {
-        return Err(Fail::from(NoMemory));
-    };
+    let mut catalog = made(alloc)?;
     let mut area = MemBlobs::new(alloc);
-    assert!(rt; publish_all(alloc, &mut catalog, 0..1).is_ok());
-    assert!(rt;
-        is_done(
-            run_round::<Content, MemBlobs>(alloc, &mut catalog, &mut area),
-            1
-        )
-    );
-    assert_eq!(rt;
-        documents::<Content>(alloc, &mut catalog, &mut area),
-        Some(3)
-    );
-    let change = delete(alloc, 0)?;
-    assert!(rt; number_of(alloc, &mut catalog, change).is_ok_and(|number| number == 2));
-    assert!(rt;
-        is_done(
-            run_round::<Content, MemBlobs>(alloc, &mut catalog, &mut area),
-            2
-        )
-    );
-    assert_eq!(rt;
-        documents::<Content>(alloc, &mut catalog, &mut area),
-        Some(0)
-    );
-    assert!(rt; !is_held(alloc, &mut area, "d/foo/index.json"));
-    assert!(rt; is_held(alloc, &mut area, "s/foo.json"));
+    are_published(&rt, alloc, &mut catalog, 0..1);
+    takes_up::<Content>(&rt, alloc, &mut catalog, &mut area, 1, 3);
+    is_deleted(&rt, alloc, &mut catalog, 0, 2)?;
+    takes_up::<Content>(&rt, alloc, &mut catalog, &mut area, 2, 0);
+    check_held(&rt, alloc, &mut area, "d/foo/index.json", false);
+    check_held(&rt, alloc, &mut area, "s/foo.json", true);
     Ok(())
 }

@@ -1,12 +1,16 @@
 // Rounds that are stopped where pages change, and what they read of the catalog.
 use crate::failures::ends;
-use crate::rounds::{BASE, delete, documents, is_done, is_held, number_of, publish, publish_all};
+use crate::rounds::{
+    BASE, delete, documents, is_done, is_held, made, number_of, publish, publish_all,
+};
+use crate::same::same;
 use blob_store::{Blobs, Fail as Failing, MemBlobs};
 use catalog_core::{Catalog, Change, CommitErr, init};
 use job_round::run_round;
 use pkg_meta::{Many, NoMemory};
 use reg_docs::Plain;
 use std::alloc::Global;
+use std::process::Abort;
 use std::test::Fail;
 
 // Publishes these versions, at most 64, in one commit.
@@ -32,13 +36,6 @@ fn unlist(alloc: Global, catalog: &mut Catalog<MemBlobs>, minor: u32) -> Result<
     number_of(alloc, catalog, change)
 }
 
-fn made(alloc: Global) -> Result<Catalog<MemBlobs>, NoMemory> {
-    match init(alloc, MemBlobs::new(alloc), BASE) {
-        Ok(catalog) => Ok(catalog),
-        Err(_) => Err(NoMemory),
-    }
-}
-
 // Whether the document of this name has this text in it.
 fn has(alloc: Global, area: &mut MemBlobs, name: &str, text: &str) -> bool {
     match area.get(alloc, name) {
@@ -55,27 +52,49 @@ const FIRST_PAGE: &str = "d/foo/page/1.0.0/1.63.0.json";
 
 const SECOND_PAGE: &str = "d/foo/page/1.64.0/1.127.0.json";
 
+// Asserts that the rounds end at this commit, with so many documents.
+fn ends_with(
+    rt: &impl Abort,
+    alloc: Global,
+    catalog: &mut Catalog<MemBlobs>,
+    area: &mut MemBlobs,
+    commit: u32,
+    count: usize,
+) {
+    same(
+        rt,
+        ends::<Plain>(alloc, catalog, area, commit),
+        true,
+        commit,
+    );
+    same(
+        rt,
+        documents::<Plain>(alloc, catalog, area),
+        Some(count),
+        commit,
+    );
+}
+
+// Asserts whether the index names this page.
+fn names_page(rt: &impl Abort, alloc: Global, area: &mut MemBlobs, page: &str, want: bool) {
+    same(rt, has(alloc, area, INDEX, page), want, page);
+}
+
 #[test]
 fn pages_end_at_64_versions(rt: HostRuntime) -> Result<(), Fail> {
     let alloc = rt.alloc();
     let mut catalog = made(alloc)?;
     let mut area = MemBlobs::new(alloc);
-    assert!(rt; publish_together(alloc, &mut catalog, 0..64).is_ok());
-    assert!(rt; ends::<Plain>(alloc, &mut catalog, &mut area, 1));
-    assert_eq!(rt;
-        documents::<Plain>(alloc, &mut catalog, &mut area),
-        Some(65)
-    );
-    assert!(rt; has(alloc, &mut area, INDEX, "#page/1.0.0/1.63.0\""));
-    assert!(rt; !has(alloc, &mut area, INDEX, "#page/1.64.0/"));
-    assert!(rt; publish_all(alloc, &mut catalog, 64..65).is_ok());
-    assert!(rt; ends::<Plain>(alloc, &mut catalog, &mut area, 2));
-    assert_eq!(rt;
-        documents::<Plain>(alloc, &mut catalog, &mut area),
-        Some(66)
-    );
-    assert!(rt; has(alloc, &mut area, INDEX, "#page/1.0.0/1.63.0\""));
-    assert!(rt; has(alloc, &mut area, INDEX, "#page/1.64.0/1.64.0\""));
+    let first = publish_together(alloc, &mut catalog, 0..64).is_ok();
+    same(&rt, first, true, "64 versions");
+    ends_with(&rt, alloc, &mut catalog, &mut area, 1, 65);
+    names_page(&rt, alloc, &mut area, "#page/1.0.0/1.63.0\"", true);
+    names_page(&rt, alloc, &mut area, "#page/1.64.0/", false);
+    let second = publish_all(alloc, &mut catalog, 64..65).is_ok();
+    same(&rt, second, true, "one more");
+    ends_with(&rt, alloc, &mut catalog, &mut area, 2, 66);
+    names_page(&rt, alloc, &mut area, "#page/1.0.0/1.63.0\"", true);
+    names_page(&rt, alloc, &mut area, "#page/1.64.0/1.64.0\"", true);
     Ok(())
 }
 
@@ -140,7 +159,7 @@ const WHERE_PAGES_GO: [(u64, bool); 5] = [
 fn stops_where_pages_go(rt: HostRuntime) -> Result<(), Fail> {
     let alloc = rt.alloc();
     for (call, took) in &WHERE_PAGES_GO {
-        assert_eq!(rt; inlined_again(alloc, *call, *took), Some(128), "{call}");
+        same(&rt, inlined_again(alloc, *call, *took), Some(128), *call);
     }
     Ok(())
 }
@@ -205,7 +224,7 @@ const WHERE_A_PAGE_CHANGES: [(u64, bool); 4] = [
 fn stops_where_a_page_changes(rt: HostRuntime) -> Result<(), Fail> {
     let alloc = rt.alloc();
     for (call, took) in &WHERE_A_PAGE_CHANGES {
-        assert_eq!(rt; both_unlisted(alloc, *call, *took), Some(134), "{call}");
+        same(&rt, both_unlisted(alloc, *call, *took), Some(134), *call);
     }
     Ok(())
 }

@@ -1,12 +1,13 @@
 // Random catalogs, with jobs at random places, each of whose store calls fails, and a last job behind further commits.
 use crate::areas::{Named, are_as, held, store_of, wanted};
-use crate::changes::{all_kinds, commit_next};
+use crate::changes::{Kinds, all_kinds, commit_next};
 use crate::failures::ends;
 use crate::random::Random;
-use crate::rounds::BASE;
+use crate::rounds::made;
+use crate::same::same;
 use auto_docs::Auto;
 use blob_store::MemBlobs;
-use catalog_core::{Catalog, init};
+use catalog_core::Catalog;
 use flat_container::Content;
 use fold_core::Hive;
 use job_round::run_round;
@@ -130,9 +131,7 @@ fn walk<H: Hive>(
 
 // The same from the catalog of no commits on.
 fn walked<H: Hive>(alloc: Global, seed: u64) -> Result<Option<u32>, NoMemory> {
-    let Ok(mut catalog) = init(alloc, MemBlobs::new(alloc), BASE) else {
-        return Err(NoMemory);
-    };
+    let mut catalog = made(alloc)?;
     walk::<H>(alloc, &mut catalog, seed)
 }
 
@@ -177,22 +176,33 @@ fn commits_made(alloc: Global, catalog: &mut Catalog<MemBlobs>) -> Result<bool, 
     Ok(true)
 }
 
+// How many commits there are, and how many items of each kind.
+fn kinds_of(alloc: Global, catalog: &mut Catalog<MemBlobs>) -> Result<(usize, Kinds), NoMemory> {
+    let Ok(commits) = catalog.commits(alloc) else {
+        return Err(NoMemory);
+    };
+    Ok((commits.len(), all_kinds(commits.as_slice())))
+}
+
 // How many items of each kind there are, by an independent script.
 #[test]
 fn a_walk_has_every_kind(rt: HostRuntime) -> Result<(), Fail> {
     let alloc = rt.alloc();
-    let Ok(mut catalog) = init(alloc, MemBlobs::new(alloc), BASE) else {
-        return Err(Fail::from(NoMemory));
-    };
-    assert!(rt; commits_made(alloc, &mut catalog)?);
-    let Ok(commits) = catalog.commits(alloc) else {
-        return Err(Fail::from(NoMemory));
-    };
-    let kinds = all_kinds(commits.as_slice());
-    assert_eq!(rt;
-        (commits.len(), kinds.publishes, kinds.unlistings),
-        (40, 31, 10)
+    let mut catalog = made(alloc)?;
+    same(&rt, commits_made(alloc, &mut catalog)?, true, "all commits");
+    let (count, kinds) = kinds_of(alloc, &mut catalog)?;
+    same(&rt, count, 40, "the number of commits");
+    same(
+        &rt,
+        (kinds.publishes, kinds.unlistings),
+        (31, 10),
+        "publishes and unlistings",
     );
-    assert_eq!(rt; (kinds.listings, kinds.deletes), (4, 15));
+    same(
+        &rt,
+        (kinds.listings, kinds.deletes),
+        (4, 15),
+        "listings and deletes",
+    );
     Ok(())
 }
