@@ -1,4 +1,5 @@
 // The program's commands, from words to status and text, over stores in memory.
+use crate::same::same;
 use blob_store::MemBlobs;
 use feed_app::Stores;
 use feed_base::NoMemory;
@@ -7,6 +8,7 @@ use feed_runs::{
     VERSIONS, behind, empty, holds, run, with_body,
 };
 use std::alloc::Global;
+use std::fmt::Display;
 use std::process::Abort;
 use std::test::Fail;
 
@@ -33,6 +35,22 @@ const SEMVER2_INDEX: &str =
 const SEMVER2_LEAF: &str =
     "{\"@id\":\"http://f.test/v3/registration-semver2/foo/1.0.0.json\",\"catalogEntry\":\"http://f.test/v3/catalog/data/1/0.json\",\"listed\":true,\"packageContent\":\"http://f.test/v3/flat/foo/1.0.0/foo.1.0.0.nupkg\",\"published\":\"2024-01-01T00:00:00.0000000Z\",\"registration\":\"http://f.test/v3/registration-semver2/foo/index.json\"}";
 
+// Asserts the status and the text that a command answers on these stores, and gives what it leaves of them.
+pub fn answers<D: Display + Copy>(
+    rt: &impl Abort,
+    alloc: Global,
+    stores: Stores<MemBlobs>,
+    words: &[&str],
+    given: Given<'_>,
+    want: (u8, &str),
+    of: D,
+) -> Result<Stores<MemBlobs>, NoMemory> {
+    let (status, output, left) = run(alloc, stores, words, given)?;
+    same(rt, status, want.0, of);
+    same(rt, output.bytes(), want.1.as_bytes(), of);
+    Ok(left)
+}
+
 // Asserts what each of the exchanges answers, from empty stores on.
 pub fn follow(
     rt: &impl Abort,
@@ -41,90 +59,62 @@ pub fn follow(
 ) -> Result<Stores<MemBlobs>, NoMemory> {
     let mut stores = empty(alloc, &[], &[])?;
     for (place, (words, body, status, text)) in exchanges.iter().enumerate() {
-        let (told, output, left) = run(alloc, stores, words, with_body(body))?;
-        assert_eq!(rt; told, *status, "exchange {place}");
-        assert_eq!(rt; output.bytes(), text.as_bytes(), "exchange {place}");
-        stores = left;
+        let want = (*status, *text);
+        stores = answers(rt, alloc, stores, words, with_body(body), want, place)?;
     }
     Ok(stores)
 }
 
+// How many exchanges come before, a command's words, and the status and the text that it answers.
+const STATUSES: [(usize, &[&str], u8, &str); 15] = [
+    (1, &["publish"], 0, DONE),
+    (1, &[], 2, USAGE),
+    (1, &["publish", "publish"], 2, USAGE),
+    (1, &["Publish"], 2, USAGE),
+    (1, &["job", "catalog"], 2, USAGE),
+    (1, &["get", "a", "b"], 2, USAGE),
+    (0, &["init", "http://f.test"], 2, USAGE),
+    (0, &["init", "http://f.test/?a"], 2, USAGE),
+    (0, &["init", "ftp://f.test/"], 2, USAGE),
+    (0, &["init", "HTTP://f.test/"], 2, USAGE),
+    (0, &["init", "http://localhost:8080/"], 0, "initialised\n"),
+    (0, &["init", "https://f.test/feed/"], 0, "initialised\n"),
+    (0, &["publish"], 3, "refused uninitialised\n"),
+    (0, &["get", "/v3/index.json"], 3, "refused uninitialised\n"),
+    (0, &["job", "content"], 3, "refused uninitialised\n"),
+];
+
 #[test]
 fn tells_each_status(rt: HostRuntime) -> Result<(), Fail> {
     let alloc = rt.alloc();
-    let plain = with_body(FOO);
-    let publish: &[&str] = &["publish"];
-    let cases: [(usize, &[&str], Given<'_>, u8, &str); 19] = [
-        (1, publish, plain, 0, DONE),
-        (1, &[], plain, 2, USAGE),
-        (1, &["publish", "publish"], plain, 2, USAGE),
-        (1, &["Publish"], plain, 2, USAGE),
-        (1, &["job", "catalog"], plain, 2, USAGE),
-        (1, &["get", "a", "b"], plain, 2, USAGE),
-        (0, &["init", "http://f.test"], plain, 2, USAGE),
-        (0, &["init", "http://f.test/?a"], plain, 2, USAGE),
-        (0, &["init", "ftp://f.test/"], plain, 2, USAGE),
-        (0, &["init", "HTTP://f.test/"], plain, 2, USAGE),
-        (
-            0,
-            &["init", "http://localhost:8080/"],
-            plain,
-            0,
-            "initialised\n",
-        ),
-        (
-            0,
-            &["init", "https://f.test/feed/"],
-            plain,
-            0,
-            "initialised\n",
-        ),
-        (0, publish, plain, 3, "refused uninitialised\n"),
-        (
-            1,
-            publish,
-            Given {
-                reads: &[1],
-                ..plain
-            },
-            5,
-            "fault input\n",
-        ),
-        (
-            1,
-            publish,
-            Given {
-                reads: &[2],
-                ..plain
-            },
-            5,
-            "fault input\n",
-        ),
-        (
-            1,
-            publish,
-            Given {
-                writes: &[1],
-                ..plain
-            },
-            5,
-            "",
-        ),
-        (1, publish, Given { room: 10, ..plain }, 5, ""),
-        (
-            0,
-            &["get", "/v3/index.json"],
-            plain,
-            3,
-            "refused uninitialised\n",
-        ),
-        (0, &["job", "content"], plain, 3, "refused uninitialised\n"),
-    ];
-    for (place, (exchanges, words, given, status, text)) in cases.iter().enumerate() {
+    for (place, (exchanges, words, status, text)) in STATUSES.iter().enumerate() {
         let stores = behind(alloc, *exchanges, &[], &[])?;
-        let (told, output, _) = run(alloc, stores, words, *given)?;
-        assert_eq!(rt; told, *status, "case {place}");
-        assert_eq!(rt; output.bytes(), text.as_bytes(), "case {place}");
+        let want = (*status, *text);
+        answers(&rt, alloc, stores, words, with_body(FOO), want, place)?;
+    }
+    Ok(())
+}
+
+// Which reads of a publish's input and which writes of its output fail, how many bytes that takes, and what is written.
+const FAULTS: [(&[u64], &[u64], u64, &str); 4] = [
+    (&[1], &[], 2000, "fault input\n"),
+    (&[2], &[], 2000, "fault input\n"),
+    (&[], &[1], 2000, ""),
+    (&[], &[], 10, ""),
+];
+
+#[test]
+fn tells_faults_of_input_and_output(rt: HostRuntime) -> Result<(), Fail> {
+    let alloc = rt.alloc();
+    for (place, (reads, writes, room, text)) in FAULTS.iter().enumerate() {
+        let stores = behind(alloc, 1, &[], &[])?;
+        let given = Given {
+            reads: *reads,
+            room: *room,
+            writes: *writes,
+            ..with_body(FOO)
+        };
+        answers(&rt, alloc, stores, &["publish"], given, (5, *text), place)?;
     }
     Ok(())
 }
@@ -227,16 +217,20 @@ const REGISTRATIONS: [Exchange<'_>; 17] = [
     (&["get", "/v3/flat/foo/index.json"], "", 3, MISSING),
 ];
 
+// Asserts that the area holds what the first publish leaves.
+fn holds_first(rt: &impl Abort, alloc: Global, area: &mut MemBlobs) {
+    for (name, text) in &FIRST {
+        same(rt, holds(alloc, area, name, text), true, *name);
+    }
+}
+
 #[test]
 fn commands_follow_each_other(rt: HostRuntime) -> Result<(), Fail> {
     let alloc = rt.alloc();
-    let lists: [&[Exchange<'_>]; 2] = [&ALL_IN_ORDER, &REGISTRATIONS];
-    for exchanges in lists {
-        let mut stores = follow(&rt, alloc, exchanges)?;
-        for (name, text) in FIRST {
-            assert!(rt; holds(alloc, &mut stores.catalog, name, text), "{name}");
-        }
-    }
+    let mut stores = follow(&rt, alloc, &ALL_IN_ORDER)?;
+    holds_first(&rt, alloc, &mut stores.catalog);
+    let mut stores = follow(&rt, alloc, &REGISTRATIONS)?;
+    holds_first(&rt, alloc, &mut stores.catalog);
     Ok(())
 }
 
@@ -299,87 +293,101 @@ fn named_versions_are_changed(rt: HostRuntime) -> Result<(), Fail> {
     Ok(())
 }
 
+// How many exchanges come before, words that name versions, and the status and the text that they are answered.
+const PAIRS: [(usize, &[&str], u8, &str); 14] = [
+    (2, &["unlist"], 2, USAGE),
+    (2, &["list", "Foo"], 2, USAGE),
+    (2, &["delete", "Foo", "1.0.0", "Bar"], 2, USAGE),
+    (2, &["relist", "Foo", "1.0.0"], 2, USAGE),
+    (2, &["publish", "Foo", "1.0.0"], 2, USAGE),
+    (0, &["unlist", "Foo", "1.0.0"], 3, "refused uninitialised\n"),
+    (0, &["unlist", "Foo", "x"], 3, "refused version 0\n"),
+    (2, &["list", "", "1.0.0"], 3, "refused id 0\n"),
+    (2, &["delete", "a b", "x"], 3, "refused id 0\n"),
+    (
+        2,
+        &["delete", "Foo", "1.0.0", "a b", "1.0.0"],
+        3,
+        "refused id 1\n",
+    ),
+    (
+        2,
+        &["unlist", "Foo", "x", "a b", "1.0.0"],
+        3,
+        "refused version 0\n",
+    ),
+    (
+        2,
+        &["delete", "Foo", "1.0.0", "foo", "1.0"],
+        3,
+        "refused twice 1\n",
+    ),
+    (
+        2,
+        &["unlist", "Foo", "1.0.0", "Bar", "1.0.0"],
+        3,
+        "refused absent 1 0\n",
+    ),
+    (
+        2,
+        &["unlist", "Foo", "1.0.0"],
+        0,
+        "committed 2 2024-01-01T00:00:00.0000001Z\n",
+    ),
+];
+
 #[test]
 fn pairs_of_words_are_read(rt: HostRuntime) -> Result<(), Fail> {
     let alloc = rt.alloc();
-    let cases: [(usize, &[&str], u8, &str); 14] = [
-        (2, &["unlist"], 2, USAGE),
-        (2, &["list", "Foo"], 2, USAGE),
-        (2, &["delete", "Foo", "1.0.0", "Bar"], 2, USAGE),
-        (2, &["relist", "Foo", "1.0.0"], 2, USAGE),
-        (2, &["publish", "Foo", "1.0.0"], 2, USAGE),
-        (0, &["unlist", "Foo", "1.0.0"], 3, "refused uninitialised\n"),
-        (0, &["unlist", "Foo", "x"], 3, "refused version 0\n"),
-        (2, &["list", "", "1.0.0"], 3, "refused id 0\n"),
-        (2, &["delete", "a b", "x"], 3, "refused id 0\n"),
-        (
-            2,
-            &["delete", "Foo", "1.0.0", "a b", "1.0.0"],
-            3,
-            "refused id 1\n",
-        ),
-        (
-            2,
-            &["unlist", "Foo", "x", "a b", "1.0.0"],
-            3,
-            "refused version 0\n",
-        ),
-        (
-            2,
-            &["delete", "Foo", "1.0.0", "foo", "1.0"],
-            3,
-            "refused twice 1\n",
-        ),
-        (
-            2,
-            &["unlist", "Foo", "1.0.0", "Bar", "1.0.0"],
-            3,
-            "refused absent 1 0\n",
-        ),
-        (
-            2,
-            &["unlist", "Foo", "1.0.0"],
-            0,
-            "committed 2 2024-01-01T00:00:00.0000001Z\n",
-        ),
-    ];
-    for (place, (exchanges, words, status, text)) in cases.iter().enumerate() {
+    for (place, (exchanges, words, status, text)) in PAIRS.iter().enumerate() {
         let stores = behind(alloc, *exchanges, &[], &[])?;
         let unread = Given {
             reads: &[1],
             ..with_body(FOO)
         };
-        let (told, output, _) = run(alloc, stores, words, unread)?;
-        assert_eq!(rt; told, *status, "case {place}");
-        assert_eq!(rt; output.bytes(), text.as_bytes(), "case {place}");
+        answers(&rt, alloc, stores, words, unread, (*status, *text), place)?;
     }
     Ok(())
+}
+
+// The clock's moment at a first publish, and what that and a second one are told.
+const STAMPS: [(u64, &str, &str); 2] = [
+    (
+        NEW_YEAR + 36_000_000_000,
+        "committed 1 2024-01-01T01:00:00.0000000Z\n",
+        "committed 2 2024-01-01T01:00:00.0000001Z\n",
+    ),
+    (
+        LAST,
+        "committed 1 9999-12-31T23:59:59.9999999Z\n",
+        "refused clockend\n",
+    ),
+];
+
+// Asserts what a publish is told, and gives what it leaves of the stores.
+fn published(
+    rt: &impl Abort,
+    alloc: Global,
+    stores: Stores<MemBlobs>,
+    given: Given<'_>,
+    line: &str,
+) -> Result<Stores<MemBlobs>, NoMemory> {
+    let (_, output, left) = run(alloc, stores, &["publish"], given)?;
+    same(rt, output.bytes(), line.as_bytes(), line);
+    Ok(left)
 }
 
 #[test]
 fn stamps_follow_each_other(rt: HostRuntime) -> Result<(), Fail> {
     let alloc = rt.alloc();
-    for (tick, line, second) in [
-        (
-            NEW_YEAR + 36_000_000_000,
-            "committed 1 2024-01-01T01:00:00.0000000Z\n",
-            "committed 2 2024-01-01T01:00:00.0000001Z\n",
-        ),
-        (
-            LAST,
-            "committed 1 9999-12-31T23:59:59.9999999Z\n",
-            "refused clockend\n",
-        ),
-    ] {
+    for (tick, line, second) in &STAMPS {
         let stores = behind(alloc, 1, &[], &[])?;
         let first = Given {
-            tick,
+            tick: *tick,
             ..with_body(FOO)
         };
-        let (_, output, stores) = run(alloc, stores, &["publish"], first)?;
-        assert_eq!(rt; output.bytes(), line.as_bytes());
-        let (_, output, _) = run(alloc, stores, &["publish"], with_body(BAR))?;
-        assert_eq!(rt; output.bytes(), second.as_bytes());
+        let stores = published(&rt, alloc, stores, first, line)?;
+        published(&rt, alloc, stores, with_body(BAR), second)?;
     }
     Ok(())
 }

@@ -1,10 +1,14 @@
 // Calls that fail, and documents that are damaged or lost.
-use blob_store::{Blobs, Fail as Fault};
+use crate::commands::answers;
+use crate::same::same;
+use blob_store::{Blobs, Fail as Fault, MemBlobs};
+use feed_app::Stores;
 use feed_base::NoMemory;
 use feed_runs::{
     BAR, DONE, FIRST, FOO, INDEX, LEAF, MISSING, PAGE, VERSIONS, behind, empty, run, with_body,
 };
 use std::alloc::Global;
+use std::process::Abort;
 use std::test::Fail;
 
 // What the first publish answers when it is tried again, by how many of its puts took effect.
@@ -28,27 +32,44 @@ fn puts_done(call: u64, took: bool) -> u64 {
     }
 }
 
+fn is_there(alloc: Global, area: &mut MemBlobs, name: &str) -> bool {
+    matches!(area.get(alloc, name), Ok(Some(_)))
+}
+
+// Asserts that so many of the first publish's blobs are there, of all but the index.
+fn holds_first(rt: &impl Abort, alloc: Global, area: &mut MemBlobs, held: u64) {
+    for (place, (name, _)) in FIRST.iter().enumerate().take(4) {
+        let there = is_there(alloc, area, name);
+        assert_eq!(rt; there, (place as u64) < held, "{name}, {held}");
+    }
+}
+
+// Asserts what the publish answers when it is tried again.
+fn is_again(rt: &impl Abort, output: &[u8], held: u64) {
+    for (place, line) in AGAIN.iter().enumerate() {
+        if place as u64 == held {
+            same(rt, output, line.as_bytes(), held);
+        }
+    }
+}
+
+// Asserts what the first publish leaves where this call fails, and what it answers when it is tried again.
+fn check_call(rt: &impl Abort, alloc: Global, call: u64, took: bool) -> Result<(), NoMemory> {
+    let stores = behind(alloc, 1, &[Fault { call, took }], &[])?;
+    let want = (4, "fault catalog\n");
+    let mut stores = answers(rt, alloc, stores, &["publish"], with_body(FOO), want, call)?;
+    let held = puts_done(call, took);
+    holds_first(rt, alloc, &mut stores.catalog, held);
+    let (_, again, _) = run(alloc, stores, &["publish"], with_body(FOO))?;
+    is_again(rt, again.bytes(), held);
+    Ok(())
+}
+
 #[test]
 fn a_failed_call_leaves_a_prefix(rt: HostRuntime) -> Result<(), Fail> {
-    let alloc = rt.alloc();
-    for took in [false, true] {
-        for call in 3..10u64 {
-            let stores = behind(alloc, 1, &[Fault { call, took }], &[])?;
-            let (status, output, mut stores) = run(alloc, stores, &["publish"], with_body(FOO))?;
-            assert_eq!(rt; status, 4);
-            assert_eq!(rt; output.bytes(), "fault catalog\n".as_bytes());
-            let held = puts_done(call, took);
-            for (place, (name, _)) in FIRST.iter().enumerate().take(4) {
-                let there = matches!(stores.catalog.get(alloc, name), Ok(Some(_)));
-                assert_eq!(rt; there, (place as u64) < held, "{name}, {held}");
-            }
-            let (_, again, _) = run(alloc, stores, &["publish"], with_body(FOO))?;
-            for (place, line) in AGAIN.iter().enumerate() {
-                if place as u64 == held {
-                    assert_eq!(rt; again.bytes(), line.as_bytes(), "{held}");
-                }
-            }
-        }
+    for call in 3..10u64 {
+        check_call(&rt, rt.alloc(), call, false)?;
+        check_call(&rt, rt.alloc(), call, true)?;
     }
     Ok(())
 }
@@ -86,16 +107,29 @@ const DAMAGE: [(&str, &str, &str, &str); 9] = [
     ("page0.json", PAGE, PAGE, "{}"),
 ];
 
+// Asserts what a publish answers where a piece of a document is replaced.
+fn is_broken(
+    rt: &impl Abort,
+    alloc: Global,
+    name: &str,
+    text: &str,
+    old: &str,
+    new: &str,
+) -> Result<(), NoMemory> {
+    let mut stores = behind(alloc, 2, &[], &[])?;
+    let broken = text.replace(alloc, old, new)?;
+    let put = stores.catalog.put(alloc, name, broken.as_bytes());
+    same(rt, put.is_ok(), true, name);
+    let (_, output, _) = run(alloc, stores, &["publish"], with_body(BAR))?;
+    let line = format!(in alloc; "damaged catalog/{name}\n")?;
+    assert_eq!(rt; output.bytes(), line.as_bytes(), "{name}: {new}");
+    Ok(())
+}
+
 #[test]
 fn broken_catalogs_are_not_opened(rt: HostRuntime) -> Result<(), Fail> {
-    let alloc = rt.alloc();
-    for (name, text, old, new) in DAMAGE {
-        let mut stores = behind(alloc, 2, &[], &[])?;
-        let broken = text.replace(alloc, old, new)?;
-        assert_eq!(rt; stores.catalog.put(alloc, name, broken.as_bytes()), Ok(()));
-        let (_, output, _) = run(alloc, stores, &["publish"], with_body(BAR))?;
-        let line = format!(in alloc; "damaged catalog/{name}\n")?;
-        assert_eq!(rt; output.bytes(), line.as_bytes(), "{name}: {new}");
+    for (name, text, old, new) in &DAMAGE {
+        is_broken(&rt, rt.alloc(), name, text, old, new)?;
     }
     Ok(())
 }
@@ -178,17 +212,30 @@ const LOST: [(&str, &[&str], u8, &str); 14] = [
     ),
 ];
 
+// Asserts what a command answers where a blob is lost, and that no cursor is put.
+fn is_told(
+    rt: &impl Abort,
+    alloc: Global,
+    lost: &str,
+    words: &[&str],
+    want: (u8, &str),
+) -> Result<(), NoMemory> {
+    let mut stores = behind(alloc, 2, &[], &[])?;
+    same(rt, stores.catalog.delete(alloc, lost).is_ok(), true, lost);
+    let mut stores = answers(rt, alloc, stores, words, with_body(BAR), want, lost)?;
+    same(
+        rt,
+        is_there(alloc, &mut stores.content, "cursor.json"),
+        false,
+        lost,
+    );
+    Ok(())
+}
+
 #[test]
 fn lost_blobs_are_told(rt: HostRuntime) -> Result<(), Fail> {
-    let alloc = rt.alloc();
-    for (lost, words, status, line) in LOST {
-        let mut stores = behind(alloc, 2, &[], &[])?;
-        assert_eq!(rt; stores.catalog.delete(alloc, lost), Ok(()));
-        let (told, output, mut stores) = run(alloc, stores, words, with_body(BAR))?;
-        assert_eq!(rt; told, status, "{lost}");
-        assert_eq!(rt; output.bytes(), line.as_bytes(), "{lost}");
-        let cursor = matches!(stores.content.get(alloc, "cursor.json"), Ok(Some(_)));
-        assert!(rt; !cursor, "{lost}");
+    for (lost, words, status, line) in &LOST {
+        is_told(&rt, rt.alloc(), lost, words, (*status, *line))?;
     }
     Ok(())
 }
@@ -219,28 +266,51 @@ fn index_of(alloc: Global, count: u64) -> Result<String, NoMemory> {
     Ok(index)
 }
 
+// How many publishes the first page has, what a further one is told, and whether it stands on the next page.
+const FULL: [(u64, &str, bool); 2] = [
+    (511, "committed 512 2024-01-01T00:00:00.0000512Z\n", false),
+    (512, "committed 513 2024-01-01T00:00:00.0000513Z\n", true),
+];
+
+// Puts a document into the catalog's area, and asserts that it is put.
+fn put(rt: &impl Abort, alloc: Global, area: &mut MemBlobs, name: &str, text: &str) {
+    same(
+        rt,
+        area.put(alloc, name, text.as_bytes()).is_ok(),
+        true,
+        name,
+    );
+}
+
+// The stores of a catalog with so many publishes on its page.
+fn stores_of(rt: &impl Abort, alloc: Global, count: u64) -> Result<Stores<MemBlobs>, NoMemory> {
+    let mut stores = empty(alloc, &[], &[])?;
+    put(
+        rt,
+        alloc,
+        &mut stores.catalog,
+        "page0.json",
+        &page_of(alloc, count)?,
+    );
+    put(
+        rt,
+        alloc,
+        &mut stores.catalog,
+        "index.json",
+        &index_of(alloc, count)?,
+    );
+    Ok(stores)
+}
+
 #[test]
 fn the_next_page_takes_what_a_full_one_cannot(rt: HostRuntime) -> Result<(), Fail> {
     let alloc = rt.alloc();
-    for (count, line, next) in [
-        (511, "committed 512 2024-01-01T00:00:00.0000512Z\n", false),
-        (512, "committed 513 2024-01-01T00:00:00.0000513Z\n", true),
-    ] {
-        let mut stores = empty(alloc, &[], &[])?;
-        let page = page_of(alloc, count)?;
-        let index = index_of(alloc, count)?;
-        assert_eq!(rt;
-            stores.catalog.put(alloc, "page0.json", page.as_bytes()),
-            Ok(())
-        );
-        assert_eq!(rt;
-            stores.catalog.put(alloc, "index.json", index.as_bytes()),
-            Ok(())
-        );
+    for (count, line, next) in &FULL {
+        let stores = stores_of(&rt, alloc, *count)?;
         let (_, output, mut stores) = run(alloc, stores, &["publish"], with_body(BAR))?;
-        assert_eq!(rt; output.bytes(), line.as_bytes());
-        let there = matches!(stores.catalog.get(alloc, "page1.json"), Ok(Some(_)));
-        assert_eq!(rt; there, next, "{count}");
+        same(&rt, output.bytes(), line.as_bytes(), *count);
+        let there = is_there(alloc, &mut stores.catalog, "page1.json");
+        same(&rt, there, *next, *count);
     }
     Ok(())
 }
@@ -266,35 +336,56 @@ const CALLS: [(usize, &[&str], (u64, u64), (u64, u64), &str); 3] = [
     ),
 ];
 
+// The stores behind so many exchanges, where this call of the catalog's store or of the content's fails.
+fn stores_failing(
+    alloc: Global,
+    exchanges: usize,
+    call: u64,
+    of_catalog: bool,
+) -> Result<Stores<MemBlobs>, NoMemory> {
+    let fault = [Fault { call, took: false }];
+    if of_catalog {
+        behind(alloc, exchanges, &fault, &[])
+    } else {
+        behind(alloc, exchanges, &[], &fault)
+    }
+}
+
+// The status and the text where a call fails that is the command's own or comes behind it.
+fn wanted<'a>(is_behind: bool, of_catalog: bool, text: &'a str) -> (u8, &'a str) {
+    if is_behind {
+        (0, text)
+    } else if of_catalog {
+        (4, "fault catalog\n")
+    } else {
+        (4, "fault content\n")
+    }
+}
+
+// Asserts what a command answers where one of its calls fails, or one behind them. These are its first and its last.
+fn check_calls(
+    rt: &impl Abort,
+    alloc: Global,
+    command: (usize, &[&str], &str),
+    calls: (u64, u64),
+    of_catalog: bool,
+) -> Result<(), NoMemory> {
+    let (exchanges, words, text) = command;
+    let (first, last) = calls;
+    for call in first.max(1)..20 {
+        let stores = stores_failing(alloc, exchanges, call, of_catalog)?;
+        let want = wanted(call > last, of_catalog, text);
+        answers(rt, alloc, stores, words, with_body(""), want, call)?;
+    }
+    Ok(())
+}
+
 #[test]
 fn failed_stores_are_told(rt: HostRuntime) -> Result<(), Fail> {
-    let alloc = rt.alloc();
-    for (exchanges, words, catalog, content, text) in CALLS {
-        for call in 1..20u64 {
-            for of_catalog in [false, true] {
-                let fault = [Fault { call, took: false }];
-                let none: [Fault; 0] = [];
-                let stores = if of_catalog {
-                    behind(alloc, exchanges, &fault, &none)?
-                } else {
-                    behind(alloc, exchanges, &none, &fault)?
-                };
-                let (first, last) = if of_catalog { catalog } else { content };
-                if call < first {
-                    continue;
-                }
-                let (told, output, _) = run(alloc, stores, words, with_body(""))?;
-                let (status, line) = if call > last {
-                    (0, text)
-                } else if of_catalog {
-                    (4, "fault catalog\n")
-                } else {
-                    (4, "fault content\n")
-                };
-                assert_eq!(rt; told, status, "{call}");
-                assert_eq!(rt; output.bytes(), line.as_bytes(), "{call}");
-            }
-        }
+    for (exchanges, words, catalog, content, text) in &CALLS {
+        let command = (*exchanges, *words, *text);
+        check_calls(&rt, rt.alloc(), command, *content, false)?;
+        check_calls(&rt, rt.alloc(), command, *catalog, true)?;
     }
     Ok(())
 }

@@ -10,4 +10,6 @@ mod failures;
 #[cfg(test)]
 mod jobs;
 #[cfg(test)]
+mod same;
+#[cfg(test)]
 mod words;

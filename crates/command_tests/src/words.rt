@@ -1,6 +1,6 @@
 // The words of commands and their option, over stores in memory.
-use crate::commands::follow;
-use feed_runs::{DONE, Exchange, FOO, INDEX, USAGE, behind, run, with_body};
+use crate::commands::{answers, follow};
+use feed_runs::{DONE, Exchange, FOO, INDEX, USAGE, behind, with_body};
 use std::test::Fail;
 
 const OTHER: &str = "refused base http://f.test/ http://g.test/\n";
@@ -78,9 +78,8 @@ fn tells_what_words_mean(rt: HostRuntime) -> Result<(), Fail> {
     let alloc = rt.alloc();
     for (place, (words, status, text)) in WORDS.iter().enumerate() {
         let stores = behind(alloc, 1, &[], &[])?;
-        let (told, output, _) = run(alloc, stores, words, with_body(FOO))?;
-        assert_eq!(rt; told, *status, "words {place}");
-        assert_eq!(rt; output.bytes(), text.as_bytes(), "words {place}");
+        let want = (*status, *text);
+        answers(&rt, alloc, stores, words, with_body(FOO), want, place)?;
     }
     Ok(())
 }
