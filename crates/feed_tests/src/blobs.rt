@@ -1,4 +1,5 @@
 // Stores in memory.
+use crate::same::same;
 use blob_store::{
     BlobErr, Blobs, Bytes, Call, Fail as Fault, MemBlobs, NoMemory, Text, call_all, get_one,
 };
@@ -57,13 +58,33 @@ fn fails_with_and_without_effect(rt: HostRuntime) -> Result<(), Fail> {
     ];
     let mut area = MemBlobs::failing(alloc, &fails)?;
     area.put(alloc, "a", b"one")?;
-    assert_eq!(rt; area.put(alloc, "a", b"two"), Err(BlobErr::Failed));
-    assert_eq!(rt; area.put(alloc, "b", b"three"), Err(BlobErr::Failed));
+    same(
+        &rt,
+        area.put(alloc, "a", b"two"),
+        Err(BlobErr::Failed),
+        "the second call",
+    );
+    same(
+        &rt,
+        area.put(alloc, "b", b"three"),
+        Err(BlobErr::Failed),
+        "the third call",
+    );
     holds(&rt, alloc, &mut area, "a", Some(b"one"))?;
-    assert!(rt; area.get(alloc, "a").is_err());
+    same(&rt, area.get(alloc, "a").is_err(), true, "the fifth call");
     holds(&rt, alloc, &mut area, "b", Some(b"three"))?;
-    assert_eq!(rt; area.delete(alloc, "a"), Err(BlobErr::Failed));
-    assert_eq!(rt; area.delete(alloc, "b"), Err(BlobErr::Failed));
+    same(
+        &rt,
+        area.delete(alloc, "a"),
+        Err(BlobErr::Failed),
+        "the seventh call",
+    );
+    same(
+        &rt,
+        area.delete(alloc, "b"),
+        Err(BlobErr::Failed),
+        "the eighth call",
+    );
     holds(&rt, alloc, &mut area, "a", Some(b"one"))?;
     holds(&rt, alloc, &mut area, "b", None)?;
     Ok(())
@@ -90,25 +111,31 @@ fn three_calls(alloc: Global) -> Result<Vec<Call>, NoMemory> {
     Ok(calls)
 }
 
+const ONE: Option<&[u8]> = Some(b"one");
+
+const TWO: Option<&[u8]> = Some(b"two");
+
+// A call that fails, whether it takes effect, whether all calls are answered, and what then stands under both names.
+const CASES: [(u64, bool, Result<(), BlobErr>, Option<&[u8]>, Option<&[u8]>); 7] = [
+    (1, false, Err(BlobErr::Failed), None, None),
+    (1, true, Err(BlobErr::Failed), ONE, None),
+    (2, false, Err(BlobErr::Failed), ONE, None),
+    (2, true, Err(BlobErr::Failed), ONE, TWO),
+    (3, false, Err(BlobErr::Failed), ONE, TWO),
+    (3, true, Err(BlobErr::Failed), None, TWO),
+    (9, true, Ok(()), None, TWO),
+];
+
 #[test]
 fn stops_at_the_call_that_fails(rt: HostRuntime) -> Result<(), Fail> {
     let alloc = rt.alloc();
     let calls = three_calls(alloc)?;
-    let (one, two): (&[u8], &[u8]) = (b"one", b"two");
-    let cases = [
-        (fault(1, false), Err(BlobErr::Failed), None, None),
-        (fault(1, true), Err(BlobErr::Failed), Some(one), None),
-        (fault(2, false), Err(BlobErr::Failed), Some(one), None),
-        (fault(2, true), Err(BlobErr::Failed), Some(one), Some(two)),
-        (fault(3, false), Err(BlobErr::Failed), Some(one), Some(two)),
-        (fault(3, true), Err(BlobErr::Failed), None, Some(two)),
-        (fault(9, true), Ok(()), None, Some(two)),
-    ];
-    for (fail, answer, a, b) in cases {
-        let mut area = MemBlobs::failing(alloc, &[fail])?;
-        assert_eq!(rt; call_all(alloc, &mut area, &calls), answer, "at {fail:?}");
-        holds(&rt, alloc, &mut area, "a", a)?;
-        holds(&rt, alloc, &mut area, "b", b)?;
+    for (call, took, answer, a, b) in &CASES {
+        let mut area = MemBlobs::failing(alloc, &[fault(*call, *took)])?;
+        let found = call_all(alloc, &mut area, &calls);
+        assert_eq!(rt; found, *answer, "at {call}, {took}");
+        holds(&rt, alloc, &mut area, "a", *a)?;
+        holds(&rt, alloc, &mut area, "b", *b)?;
     }
     Ok(())
 }
@@ -136,13 +163,9 @@ fn takes_thousands_of_calls(rt: HostRuntime) -> Result<(), Fail> {
 #[test]
 fn says_why_a_call_gave_no_answer(rt: HostRuntime) -> Result<(), Fail> {
     let alloc = rt.alloc();
-    assert_eq!(rt;
-        format!(in alloc; "{}", BlobErr::Failed)?.as_str(),
-        "the store failed"
-    );
-    assert_eq!(rt;
-        format!(in alloc; "{}", BlobErr::Memory)?.as_str(),
-        "out of memory"
-    );
+    let failed = format!(in alloc; "{}", BlobErr::Failed)?;
+    same(&rt, failed.as_str(), "the store failed", "a fault");
+    let memory = format!(in alloc; "{}", BlobErr::Memory)?;
+    same(&rt, memory.as_str(), "out of memory", "want of memory");
     Ok(())
 }

@@ -1,7 +1,12 @@
 // The bodies that `publish` takes, and those that it refuses.
+use crate::same::same;
+use blob_store::MemBlobs;
+use feed_app::Stores;
 use feed_base::NoMemory;
 use feed_runs::{DONE, Exchange, FOO, LEAF, PAGE, behind, holds, run, with_body};
 use std::alloc::Global;
+use std::fmt::Display;
+use std::process::Abort;
 use std::test::Fail;
 
 // Foo, and Bar with an author and a dependency.
@@ -201,8 +206,38 @@ fn a_publish_is_read_whole(rt: HostRuntime) -> Result<(), Fail> {
     let alloc = rt.alloc();
     for (body, id, version, nuspec, nupkg) in &ACCEPTED {
         let page = first_page_of(alloc, id, version)?;
-        assert!(rt; is_published(alloc, body, &page, nuspec, nupkg)?, "{body}");
+        let done = is_published(alloc, body, &page, nuspec, nupkg)?;
+        same(&rt, done, true, *body);
     }
+    Ok(())
+}
+
+// Asserts the status and the text that a command answers on these stores, and gives what it leaves of them.
+fn answers<D: Display + Copy>(
+    rt: &impl Abort,
+    alloc: Global,
+    stores: Stores<MemBlobs>,
+    command: (&[&str], &str),
+    want: (u8, &str),
+    of: D,
+) -> Result<Stores<MemBlobs>, NoMemory> {
+    let (words, body) = command;
+    let (status, output, left) = run(alloc, stores, words, with_body(body))?;
+    same(rt, status, want.0, of);
+    same(rt, output.bytes(), want.1.as_bytes(), of);
+    Ok(left)
+}
+
+// Asserts that a publish of this body is refused with this line.
+fn is_refused<D: Display + Copy>(
+    rt: &impl Abort,
+    alloc: Global,
+    body: &str,
+    line: &str,
+    of: D,
+) -> Result<(), NoMemory> {
+    let stores = behind(alloc, 1, &[], &[])?;
+    answers(rt, alloc, stores, (&["publish"], body), (3, line), of)?;
     Ok(())
 }
 
@@ -210,10 +245,7 @@ fn a_publish_is_read_whole(rt: HostRuntime) -> Result<(), Fail> {
 fn bodies_are_refused(rt: HostRuntime) -> Result<(), Fail> {
     let alloc = rt.alloc();
     for (body, line) in &REFUSED_BODIES {
-        let stores = behind(alloc, 1, &[], &[])?;
-        let (told, output, _) = run(alloc, stores, &["publish"], with_body(body))?;
-        assert_eq!(rt; told, 3, "{body}");
-        assert_eq!(rt; output.bytes(), line.as_bytes(), "{body}");
+        is_refused(&rt, alloc, body, line, *body)?;
     }
     Ok(())
 }
@@ -227,20 +259,20 @@ fn records(alloc: Global, count: u32) -> Result<String, NoMemory> {
     Ok(body)
 }
 
+// Counts of records, and the lines that refuse them.
+const COUNTS: [(u32, &str); 4] = [
+    (0, "refused empty\n"),
+    (64, "refused twice 1\n"),
+    (65, "refused toomany 65\n"),
+    (200, "refused toomany 200\n"),
+];
+
 #[test]
 fn a_commit_takes_1_to_64_changes(rt: HostRuntime) -> Result<(), Fail> {
     let alloc = rt.alloc();
-    for (count, line) in [
-        (0, "refused empty\n"),
-        (64, "refused twice 1\n"),
-        (65, "refused toomany 65\n"),
-        (200, "refused toomany 200\n"),
-    ] {
-        let stores = behind(alloc, 1, &[], &[])?;
-        let body = records(alloc, count)?;
-        let (told, output, _) = run(alloc, stores, &["publish"], with_body(&body))?;
-        assert_eq!(rt; told, 3, "{count}");
-        assert_eq!(rt; output.bytes(), line.as_bytes(), "{count}");
+    for (count, line) in &COUNTS {
+        let body = records(alloc, *count)?;
+        is_refused(&rt, alloc, &body, line, *count)?;
     }
     Ok(())
 }
@@ -259,10 +291,8 @@ fn a_body_of_two_is_one_commit(rt: HostRuntime) -> Result<(), Fail> {
     let alloc = rt.alloc();
     let mut stores = behind(alloc, 1, &[], &[])?;
     for (place, (words, body, status, text)) in TWO_ITEMS.iter().enumerate() {
-        let (told, output, left) = run(alloc, stores, words, with_body(body))?;
-        assert_eq!(rt; told, *status, "exchange {place}");
-        assert_eq!(rt; output.bytes(), text.as_bytes(), "exchange {place}");
-        stores = left;
+        let want = (*status, *text);
+        stores = answers(&rt, alloc, stores, (*words, *body), want, place)?;
     }
     Ok(())
 }

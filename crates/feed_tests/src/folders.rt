@@ -1,4 +1,5 @@
 // Stores in folders.
+use crate::same::same;
 use blob_dir::{BLOB_LIMIT, BlobErr, Blobs, DirBlobs, is_blob_name};
 use std::alloc::Global;
 use std::fs;
@@ -25,22 +26,13 @@ fn holds<B: Blobs>(
     Ok(())
 }
 
-// Asserts that every call on a name fails.
+// Asserts that every call on a name fails: a get, a put and a delete.
 fn fails<B: Blobs>(rt: &impl Abort, alloc: Global, area: &mut B, name: &str) {
-    assert!(rt;
-        area.get(alloc, name).err() == Some(BlobErr::Failed),
-        "get of {name}"
-    );
-    assert_eq!(rt;
-        area.put(alloc, name, b"x"),
-        Err(BlobErr::Failed),
-        "put of {name}"
-    );
-    assert_eq!(rt;
-        area.delete(alloc, name),
-        Err(BlobErr::Failed),
-        "delete of {name}"
-    );
+    let get = area.get(alloc, name).err();
+    let put = area.put(alloc, name, b"x").err();
+    let delete = area.delete(alloc, name).err();
+    let failed = Some(BlobErr::Failed);
+    same(rt, (get, put, delete), (failed, failed, failed), name);
 }
 
 // A file of so many bytes, which are all 0.
@@ -101,28 +93,30 @@ fn keeps_blobs_in_a_folder(rt: HostRuntime) -> Result<(), Fail> {
     Ok(())
 }
 
+// Names, and whether a blob may have them.
+const BLOB_NAMES: [(&str, bool); 17] = [
+    ("index.json", true),
+    ("data/1/0.json", true),
+    ("d/a..b/1.0.0-..x/a.nuspec", true),
+    ("d/foo.tmp/index.json", true),
+    ("...", true),
+    ("", false),
+    ("/a", false),
+    ("a/", false),
+    ("a//b", false),
+    (".", false),
+    ("..", false),
+    ("a/../b", false),
+    ("a/.", false),
+    ("a\0b", false),
+    ("a\\b", false),
+    ("a.json.tmp", false),
+    (".tmp", false),
+];
+
 #[test]
 fn knows_names_of_blobs(rt: HostRuntime) {
-    let cases = [
-        ("index.json", true),
-        ("data/1/0.json", true),
-        ("d/a..b/1.0.0-..x/a.nuspec", true),
-        ("d/foo.tmp/index.json", true),
-        ("...", true),
-        ("", false),
-        ("/a", false),
-        ("a/", false),
-        ("a//b", false),
-        (".", false),
-        ("..", false),
-        ("a/../b", false),
-        ("a/.", false),
-        ("a\0b", false),
-        ("a\\b", false),
-        ("a.json.tmp", false),
-        (".tmp", false),
-    ];
-    for (name, want) in cases {
-        assert_eq!(rt; is_blob_name(name), want, "{name:?}");
+    for (name, want) in &BLOB_NAMES {
+        assert_eq!(rt; is_blob_name(*name), *want, "{name:?}");
     }
 }

@@ -11,3 +11,5 @@ mod bodies;
 mod folders;
 #[cfg(test)]
 mod outside;
+#[cfg(test)]
+mod same;
