@@ -1,4 +1,5 @@
 // Base addresses.
+use crate::same::same;
 use feed_routes::base_ok;
 use std::test::Fail;
 
@@ -46,11 +47,11 @@ const OTHERS: [&str; 24] = [
 
 #[test]
 fn reads_bases(rt: HostRuntime) -> Result<(), Fail> {
-    for base in BASES {
-        assert!(rt; base_ok(rt.alloc(), base)?, "{base}");
+    for base in &BASES {
+        same(&rt, base_ok(rt.alloc(), *base)?, true, *base);
     }
-    for base in OTHERS {
-        assert!(rt; !base_ok(rt.alloc(), base)?, "{base}");
+    for base in &OTHERS {
+        same(&rt, base_ok(rt.alloc(), *base)?, false, *base);
     }
     Ok(())
 }

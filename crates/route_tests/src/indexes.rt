@@ -1,4 +1,5 @@
 // Service indexes.
+use crate::same::same;
 use feed_routes::service_index;
 use std::test::Fail;
 
@@ -31,9 +32,9 @@ const INDEXES: [(&str, &str); 2] = [
 
 #[test]
 fn writes_service_indexes(rt: HostRuntime) -> Result<(), Fail> {
-    for (base, text) in INDEXES {
-        let bytes = service_index(rt.alloc(), base)?;
-        assert_eq!(rt; bytes.as_slice(), text.as_bytes(), "{base}");
+    for (base, text) in &INDEXES {
+        let bytes = service_index(rt.alloc(), *base)?;
+        same(&rt, bytes.as_slice(), text.as_bytes(), *base);
     }
     Ok(())
 }

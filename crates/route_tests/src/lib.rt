@@ -10,4 +10,6 @@ mod indexes;
 #[cfg(test)]
 mod requests;
 #[cfg(test)]
+mod same;
+#[cfg(test)]
 mod services;

@@ -2,7 +2,8 @@
 use feed_routes::{Ask, CommitWord, RouteErr, route};
 use fold_core::HiveName;
 use http_wire::Verb;
-use std::test::Fail;
+use std::alloc::Global;
+use std::process::Abort;
 
 // Targets of GET, with what they ask for: the kind, and the name or the query.
 const GETS: [(&str, &str, &str); 36] = [
@@ -252,44 +253,41 @@ fn told(found: &Result<Ask, RouteErr>) -> (&str, &str) {
     }
 }
 
-#[test]
-fn routes_of_get(rt: HostRuntime) -> Result<(), Fail> {
-    for (target, kind, name) in GETS {
-        let found = route(rt.alloc(), "GET", target);
-        assert_eq!(rt; told(&found), (kind, name), "{target}");
-        let found = route(rt.alloc(), "POST", target);
-        assert_eq!(rt; told(&found), ("method", "GET"), "{target}");
-    }
-    Ok(())
+// Asserts what a request asks for.
+fn asks(rt: &impl Abort, alloc: Global, request: (&str, &str), want: (&str, &str)) {
+    let (method, target) = request;
+    let found = route(alloc, method, target);
+    assert_eq!(rt; told(&found), want, "{method} {target}");
 }
 
 #[test]
-fn routes_of_post(rt: HostRuntime) -> Result<(), Fail> {
-    for (target, kind, name) in POSTS {
-        let found = route(rt.alloc(), "POST", target);
-        assert_eq!(rt; told(&found), (kind, name), "{target}");
-        let found = route(rt.alloc(), "GET", target);
-        assert_eq!(rt; told(&found), ("method", "POST"), "{target}");
+fn routes_of_get(rt: HostRuntime) {
+    for (target, kind, name) in &GETS {
+        asks(&rt, rt.alloc(), ("GET", *target), (*kind, *name));
+        asks(&rt, rt.alloc(), ("POST", *target), ("method", "GET"));
     }
-    Ok(())
 }
 
 #[test]
-fn routes_of_another_method(rt: HostRuntime) -> Result<(), Fail> {
-    for (method, target, allowed) in METHODS {
-        let found = route(rt.alloc(), method, target);
-        assert_eq!(rt; told(&found), ("method", allowed), "{method} {target}");
+fn routes_of_post(rt: HostRuntime) {
+    for (target, kind, name) in &POSTS {
+        asks(&rt, rt.alloc(), ("POST", *target), (*kind, *name));
+        asks(&rt, rt.alloc(), ("GET", *target), ("method", "POST"));
     }
-    Ok(())
 }
 
 #[test]
-fn targets_without_a_route(rt: HostRuntime) -> Result<(), Fail> {
-    for target in MISSING {
-        for method in ALL_METHODS {
-            let found = route(rt.alloc(), method, target);
-            assert_eq!(rt; told(&found), ("missing", ""), "{method} {target}");
+fn routes_of_another_method(rt: HostRuntime) {
+    for (method, target, allowed) in &METHODS {
+        asks(&rt, rt.alloc(), (*method, *target), ("method", *allowed));
+    }
+}
+
+#[test]
+fn targets_without_a_route(rt: HostRuntime) {
+    for target in &MISSING {
+        for method in &ALL_METHODS {
+            asks(&rt, rt.alloc(), (*method, *target), ("missing", ""));
         }
     }
-    Ok(())
 }
