@@ -1,4 +1,5 @@
 // The lock on a real folder, and its stores.
+use crate::same::same;
 use blob_dir::{Access, BlobErr, Blobs};
 use std::alloc::Global;
 use std::fs::File;
@@ -27,8 +28,8 @@ impl Clock for Standing {
 // Asserts that a store changes nothing.
 fn changes_nothing<B: Blobs>(rt: &impl Abort, alloc: Global, area: &mut B) {
     let failed = Some(BlobErr::Failed);
-    assert_eq!(rt; area.put(alloc, "a", b"x").err(), failed, "a put");
-    assert_eq!(rt; area.delete(alloc, "d/a").err(), failed, "a removal");
+    same(rt, area.put(alloc, "a", b"x").err(), failed, "a put");
+    same(rt, area.delete(alloc, "d/a").err(), failed, "a removal");
 }
 
 // Asserts that a store holds a blob of one byte.
@@ -37,7 +38,7 @@ fn holds<B: Blobs>(rt: &impl Abort, alloc: Global, area: &mut B) -> Result<(), F
         Some(bytes) => bytes.as_slice().len(),
         None => 0,
     };
-    assert_eq!(rt; length, 1);
+    same(rt, length, 1, "the length");
     Ok(())
 }
 
@@ -46,13 +47,20 @@ fn holds<B: Blobs>(rt: &impl Abort, alloc: Global, area: &mut B) -> Result<(), F
 fn makes_no_folder_by_itself(rt: HostRuntime) -> Result<(), Fail> {
     let alloc = rt.alloc();
     let lock = FolderLock::take(&rt, &Standing, "system_test_absent");
-    assert_eq!(rt; lock.access(), Access::Absent);
+    same(&rt, lock.access(), Access::Absent, "the lock");
     let mut area = stores(&rt, alloc, "system_test_absent", &lock)?.catalog;
-    assert!(rt; area.get(alloc, "a")?.is_none(), "nothing is held");
+    same(
+        &rt,
+        area.get(alloc, "a")?.is_none(),
+        true,
+        "nothing is held",
+    );
     changes_nothing(&rt, alloc, &mut area);
-    assert!(rt;
-        !fs::exists(&rt, "system_test_absent")?,
-        "no folder is made"
+    same(
+        &rt,
+        fs::exists(&rt, "system_test_absent")?,
+        false,
+        "no folder is made",
     );
     Ok(())
 }
@@ -60,7 +68,7 @@ fn makes_no_folder_by_itself(rt: HostRuntime) -> Result<(), Fail> {
 // What is done with the lock, which is dropped at the end.
 fn puts_with_the_lock(rt: &(impl Abort + Files<File = File>), alloc: Global) -> Result<(), Fail> {
     let lock = FolderLock::make(rt, &Standing, FOLDER);
-    assert_eq!(rt; lock.access(), Access::Granted);
+    same(rt, lock.access(), Access::Granted, "the lock");
     let mut area = stores(rt, alloc, FOLDER, &lock)?.content;
     area.put(alloc, "d/a", b"x")?;
     holds(rt, alloc, &mut area)?;
@@ -73,12 +81,13 @@ fn fails_without_the_lock(
     alloc: Global,
 ) -> Result<(), Fail> {
     let lock = FolderLock::take(rt, &Standing, FOLDER);
-    assert_eq!(rt; lock.access(), Access::Denied);
+    same(rt, lock.access(), Access::Denied, "the lock of another");
     let mut area = stores(rt, alloc, FOLDER, &lock)?.content;
-    assert_eq!(rt;
+    same(
+        rt,
         area.get(alloc, "d/a").err(),
         Some(BlobErr::Failed),
-        "a get"
+        "a get",
     );
     changes_nothing(rt, alloc, &mut area);
     Ok(())
@@ -90,13 +99,11 @@ fn gives_one_lock_at_a_time(rt: HostRuntime) -> Result<(), Fail> {
     let _ = fs::remove_dir_all(&rt, "system_test");
     puts_with_the_lock(&rt, alloc)?;
     let lock = FolderLock::take(&rt, &Standing, FOLDER);
-    assert_eq!(rt; lock.access(), Access::Granted);
+    same(&rt, lock.access(), Access::Granted, "the lock");
     let mut area = stores(&rt, alloc, FOLDER, &lock)?.content;
     holds(&rt, alloc, &mut area)?;
-    assert!(rt;
-        !fs::exists(&rt, "system_test/deep/feed/content/a")?,
-        "no blob is put"
-    );
+    let is_put = fs::exists(&rt, "system_test/deep/feed/content/a")?;
+    same(&rt, is_put, false, "no blob is put");
     fs::remove_dir_all(&rt, "system_test")?;
     Ok(())
 }

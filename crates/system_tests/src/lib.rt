@@ -4,4 +4,6 @@
 #[cfg(test)]
 mod folders;
 #[cfg(test)]
+mod same;
+#[cfg(test)]
 mod streams;

@@ -1,4 +1,5 @@
 // Readers, writers and clocks that fail where they are told to.
+use crate::same::same;
 use feed_base::{Clock, Failed, Sink, Source};
 use std::cell::Cell;
 use std::io::{ErrorKind, Read, Write};
@@ -67,33 +68,40 @@ impl time::Clock for &Hand {
 fn reads_until_a_fault(rt: HostRuntime) {
     let mut source = Reading::new(Stream { calls: 0 });
     let mut buffer = [0u8; 4];
-    assert_eq!(rt; source.read(&mut buffer), Ok(2));
-    assert_eq!(rt; buffer[..2], b"ab"[..]);
-    assert_eq!(rt; source.read(&mut buffer), Err(Failed));
-    assert_eq!(rt; source.read(&mut buffer), Ok(0));
+    same(&rt, source.read(&mut buffer), Ok(2), "the first read");
+    same(&rt, &buffer[..2], b"ab".as_slice(), "its bytes");
+    same(
+        &rt,
+        source.read(&mut buffer),
+        Err(Failed),
+        "the second read",
+    );
+    same(&rt, source.read(&mut buffer), Ok(0), "the third read");
 }
 
 #[test]
 fn writes_until_a_fault(rt: HostRuntime) {
     let mut sink = Writing::new(Narrow { taken: 0 });
-    assert_eq!(rt; sink.write(b"ab"), Ok(()));
-    assert_eq!(rt; sink.write(b"c"), Err(Failed));
-    assert_eq!(rt; sink.write(b""), Ok(()));
+    same(&rt, sink.write(b"ab"), Ok(()), "two bytes");
+    same(&rt, sink.write(b"c"), Err(Failed), "a third byte");
+    same(&rt, sink.write(b""), Ok(()), "no byte");
 }
 
-// The ticks of .NET's `DateTime`: 1970, 2000, the last moment of the year 9999, and what is after it.
+// Nanoseconds since 1970, and the ticks of .NET's `DateTime`: 1970, 2000, the last moment of the year 9999, and what is
+// after it.
+const TICKS: [(u128, Option<u64>); 6] = [
+    (0, Some(621_355_968_000_000_000)),
+    (199, Some(621_355_968_000_000_001)),
+    (946_684_800_000_000_000, Some(630_822_816_000_000_000)),
+    (253_402_300_799_999_999_999, Some(3_155_378_975_999_999_999)),
+    (253_402_300_800_000_000_000, None),
+    (u128::MAX, None),
+];
+
 #[test]
 fn counts_ticks_from_the_year_1(rt: HostRuntime) {
-    let cases = [
-        (0, Some(621_355_968_000_000_000)),
-        (199, Some(621_355_968_000_000_001)),
-        (946_684_800_000_000_000, Some(630_822_816_000_000_000)),
-        (253_402_300_799_999_999_999, Some(3_155_378_975_999_999_999)),
-        (253_402_300_800_000_000_000, None),
-        (u128::MAX, None),
-    ];
-    for (nanos, want) in cases {
-        assert_eq!(rt; ticks_of_nanos(nanos), want, "at {nanos}");
+    for (nanos, want) in &TICKS {
+        same(&rt, ticks_of_nanos(*nanos), *want, *nanos);
     }
 }
 
@@ -103,12 +111,22 @@ fn answers_its_last_moment_where_it_cannot_be_read(rt: HostRuntime) -> Result<()
         time: Cell::new(None),
     };
     let mut clock = SystemClock::new(&hand);
-    assert_eq!(rt; clock.now(), 0);
+    same(&rt, clock.now(), 0, "no time yet");
     hand.time.set(Some(Duration::from_secs(946_684_800)));
-    assert_eq!(rt; clock.now(), 630_822_816_000_000_000);
+    same(&rt, clock.now(), 630_822_816_000_000_000, "the year 2000");
     hand.time.set(None);
-    assert_eq!(rt; clock.now(), 630_822_816_000_000_000);
+    same(
+        &rt,
+        clock.now(),
+        630_822_816_000_000_000,
+        "no time any more",
+    );
     hand.time.set(Some(Duration::from_secs(253_402_300_800)));
-    assert_eq!(rt; clock.now(), 3_155_378_975_999_999_999);
+    same(
+        &rt,
+        clock.now(),
+        3_155_378_975_999_999_999,
+        "a time beyond the last",
+    );
     Ok(())
 }
