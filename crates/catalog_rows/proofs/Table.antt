@@ -14,7 +14,8 @@ use Rattle.blob_store.proofs.Areas.{bytes_eq-same, bytes_eq-turned}
 use Rattle.catalog_doc.proofs.Spelling.{bytes_eq-true}
 use Rattle.catalog_doc.specs.declared.row.Row.{Row}
 use Rattle.catalog_rows.specs.Last.{is_no_delete, is_of_keys, last_row, live_rows}
-use Rattle.catalog_rows.specs.Latest.{is_live_at, IsLatestOf, IsEntered, IsNoted, KeepsEntered, last_place, entered_for, NotesSame}
+use Rattle.catalog_rows.specs.Latest.{is_first, is_live_at, IsLatestOf, IsEntered, IsNoted, IsPut, KeepsEntered, first_or, last_place, entered_for, entered_in, EntersSame, NotesSame}
+use Rattle.catalog_rows.specs.declared.latest.Entered.{Entered}
 use Rattle.catalog_rows.specs.declared.latest.Latest.{Latest}
 use Rattle.catalog_rows.specs.declared.latest.OfId.{OfId}
 use Rattle.catalog_rows.proofs.LastRows.{live_rows-few, live_rows-push, one}
@@ -70,13 +71,13 @@ own_keys row version =
     bytes_eq-turned (key_text row.version) version ∙ ap (λ (b : Bool). b && bytes_eq version (key_text row.version)) (sym (bytes_eq-same row.id.key))
 
 -- the places of an id's versions, with a row of it more
-pub places_more : {Y : Type 0} (rows : List Row) (row : Row) (key : String Y) (at : ℕ) (old new : BTreeMap (String Y) (Option ℕ))
-    → ((version : List ℕ) → unwrap_or (get_by_text old version) None ≡ last_place (is_of_keys row.id.key version) rows)
-    → string_bytes key ≡ key_text row.version → at ≡ length rows → UpdatesBy string_cmp (string_cmp key) old new (Some (Some at))
-    → (version : List ℕ) → unwrap_or (get_by_text new version) None ≡ last_place (is_of_keys row.id.key version) (rows ++ row ∷ [])
-places_more rows row key at old new places is here updates version =
-    ap (λ (found : Option (Option ℕ)). unwrap_or found None) (btree_map_updates_text (string_bytes key) old new (Some (Some at)) updates version)
-    ∙ own_place (bytes_eq (string_bytes key) version) at (get_by_text old version)
+pub places_more : (rows : List Row) (row : Row) (key : List ℕ) (at : ℕ) (old new : OfId)
+    → ((version : List ℕ) → unwrap_or (entered_in old version) None ≡ last_place (is_of_keys row.id.key version) rows)
+    → key ≡ key_text row.version → at ≡ length rows → IsPut key (Some at) old new
+    → (version : List ℕ) → unwrap_or (entered_in new version) None ≡ last_place (is_of_keys row.id.key version) (rows ++ row ∷ [])
+places_more rows row key at old new places is here put version =
+    ap (λ (found : Option (Option ℕ)). unwrap_or found None) (put version)
+    ∙ own_place (bytes_eq key version) at (entered_in old version)
     ∙ (λ i. if bytes_eq (is i) version then Some (here i) else places version i)
     ∙ ap (λ (b : Bool). if b then Some (length rows) else last_place (is_of_keys row.id.key version) rows) (own_keys row version)
     ∙ sym (last_place-push (is_of_keys row.id.key version) rows row)
@@ -86,12 +87,10 @@ still_there true value before is = refl
 still_there false value before is = is
 
 -- a key that is put in leaves the others
-pub keys_stay : {X Y : Type 0} (key : List ℕ) (value : X) (old new : BTreeMap (String Y) X)
-    → UpdatesBy string_cmp (λ k. slice_cmp nat_cmp key (string_bytes k)) old new (Some value)
-    → (asked : List ℕ) → IsSome (get_by_text old asked) → IsSome (get_by_text new asked)
-keys_stay key value old new updates asked is =
-    subst (λ (found : Option _). IsSome found) (sym (btree_map_updates_text key old new (Some value) updates asked))
-    (still_there (bytes_eq key asked) value (get_by_text old asked) is)
+pub keys_stay : (key : List ℕ) (place : Option ℕ) (old new : OfId) → IsPut key place old new
+    → (asked : List ℕ) → IsSome (entered_in old asked) → IsSome (entered_in new asked)
+keys_stay key place old new put asked is =
+    subst (λ (found : Option _). IsSome found) (sym (put asked)) (still_there (bytes_eq key asked) place (entered_in old asked) is)
 
 none_before : {X : Type 0} (own : Bool) (none : X) (before : Option X) → (own ≡ true → before ≡ None)
     → unwrap_or (if own then Some none else before) none ≡ unwrap_or before none
@@ -102,13 +101,49 @@ pub not_some : {X : Type 0} (found : Option X) → is_some found ≡ false → f
 not_some None is = refl
 not_some (Some x) is = cc
 
--- a new key with the value that unknown ones are taken to have
-pub key_new : {X Y : Type 0} (key : List ℕ) (none : X) (old new : BTreeMap (String Y) X) → get_by_text old key ≡ None
-    → UpdatesBy string_cmp (λ k. slice_cmp nat_cmp key (string_bytes k)) old new (Some none)
-    → (asked : List ℕ) → unwrap_or (get_by_text new asked) none ≡ unwrap_or (get_by_text old asked) none
-key_new {X} key none old new fresh updates asked =
-    ap (λ (found : Option X). unwrap_or found none) (btree_map_updates_text key old new (Some none) updates asked)
-    ∙ none_before (bytes_eq key asked) none (get_by_text old asked) (λ own. ap (get_by_text old) (sym (bytes_eq-true key asked own)) ∙ fresh)
+-- a new key without a place, as unknown ones are taken to be
+pub key_new : (key : List ℕ) (old new : OfId) → entered_in old key ≡ None → IsPut key None old new
+    → (asked : List ℕ) → unwrap_or (entered_in new asked) None ≡ unwrap_or (entered_in old asked) None
+key_new key old new fresh put asked =
+    ap (λ (found : Option (Option ℕ)). unwrap_or found None) (put asked)
+    ∙ none_before (bytes_eq key asked) None (entered_in old asked) (λ own. ap (entered_in old) (sym (bytes_eq-true key asked own)) ∙ fresh)
+
+-- a place that is put for a version among the others
+two_ways : (e : Entered) (key asked : List ℕ) (place : Option ℕ) (other new : Option (Option ℕ)) (own first : Bool) → bytes_eq key asked ≡ own
+    → bytes_eq (string_bytes e.key) asked ≡ first → bytes_eq (string_bytes e.key) key ≡ false → new ≡ (if own then Some place else other)
+    → (if first then Some e.place else new) ≡ (if own then Some place else (if first then Some e.place else other))
+two_ways e key asked place other new true true own first apart is =
+    let same : string_bytes e.key ≡ key = bytes_eq-true (string_bytes e.key) asked first ∙ sym (bytes_eq-true key asked own) in
+    let alike : bytes_eq (string_bytes e.key) key ≡ true = ap (bytes_eq (string_bytes e.key)) (sym same) ∙ bytes_eq-same (string_bytes e.key) in
+    let no : ⊥ = cc (alike, apart) in absurd no
+two_ways e key asked place other new true false own first apart is = is
+two_ways e key asked place other new false true own first apart is = refl
+two_ways e key asked place other new false false own first apart is = is
+
+pub put_other : (first : Option Entered) (key asked : List ℕ) (place : Option ℕ) (other new : Option (Option ℕ)) → is_first first key ≡ false
+    → new ≡ (if bytes_eq key asked then Some place else other)
+    → first_or first asked new ≡ (if bytes_eq key asked then Some place else first_or first asked other)
+put_other None key asked place other new apart is = let no : ⊥ = cc apart in absurd no
+put_other (Some e) key asked place other new apart is =
+    two_ways e key asked place other new (bytes_eq key asked) (bytes_eq (string_bytes e.key) asked) refl refl apart is
+
+-- what stood for it there
+pub other_before : (first : Option Entered) (key : List ℕ) (other : Option (Option ℕ)) → is_first first key ≡ false → first_or first key other ≡ other
+other_before None key other apart = refl
+other_before (Some e) key other apart = ap (λ (b : Bool). if b then Some e.place else other) apart
+
+-- a place that is put for the version that stands by itself, or is the first to
+only_own : (first : Option Entered) (key asked : List ℕ) (place : Option ℕ) (other : Option (Option ℕ)) (own : Bool) → is_first first key ≡ true
+    → bytes_eq key asked ≡ own → (if own then Some place else other) ≡ (if own then Some place else first_or first asked other)
+only_own first key asked place other true is own = refl
+only_own None key asked place other false is own = refl
+only_own (Some e) key asked place other false is own =
+    let apart : bytes_eq (string_bytes e.key) asked ≡ false = ap (λ (k : List ℕ). bytes_eq k asked) (bytes_eq-true (string_bytes e.key) key is) ∙ own in
+    ap (λ (b : Bool). if b then Some e.place else other) (sym apart)
+
+pub put_first : (first : Option Entered) (key asked : List ℕ) (place : Option ℕ) (other : Option (Option ℕ)) → is_first first key ≡ true
+    → (if bytes_eq key asked then Some place else other) ≡ (if bytes_eq key asked then Some place else first_or first asked other)
+put_first first key asked place other is = only_own first key asked place other (bytes_eq key asked) is refl
 
 live_gone : (row : Row) (rows : List Row) → live_rows row.id.key (rows ++ row ∷ []) + one (is_no_delete (last_row row.id.key (key_text row.version) rows))
     ≡ live_rows row.id.key rows + one (not row.gone)
@@ -224,6 +259,25 @@ entered_still key was of_id old new changes keeps other =
     key other.id.key was of_id old new changes
     (subst (λ (o : Option OfId). IsSome (entered_for o (key_text other.version)) → IsSome (entered_for (Some of_id) (key_text other.version))) (sym changes.before) (keeps (key_text other.version)))
     (λ apart is. is)
+
+-- the version that was entered in what is noted of the id is so in the table
+pub entered_there : (key : List ℕ) (was : Option OfId) (of_id : OfId) (old new : Latest) → Changes key was of_id old new → (version : List ℕ)
+    → IsSome (entered_in of_id version) → IsSome (entered_for (get_by_text new.ids key) version)
+entered_there key was of_id old new changes version is =
+    subst (λ (found : Option OfId). IsSome (entered_for found version))
+    (sym (changes.after key ∙ ap (λ (b : Bool). if b then Some of_id else get_by_text old.ids key) (bytes_eq-same key))) is
+
+-- the entries of a map that stay tell the same
+pub same_entered : (first : Option Entered) (live : ℕ) (old new : BTreeMap _ (Option ℕ)) → new.entries ≡ old.entries
+    → EntersSame (record { first = first; others = old; live = live }) (record { first = first; others = new; live = live })
+same_entered first live old new same version = ap (λ es. first_or first version (lookup (is_at (text_cmp version)) es)) same
+
+-- what is entered still is, where the same is
+pub same_keeps : (old new : OfId) → EntersSame old new → KeepsEntered (Some old) (Some new)
+same_keeps old new same version is = subst (λ (found : Option (Option ℕ)). IsSome found) (sym (same version)) is
+
+pub same_notes : (old new : OfId) → EntersSame old new → new.live ≡ old.live → NotesSame (Some old) (Some new)
+same_notes old new same live = record { places = λ version. ap (λ (found : Option (Option ℕ)). unwrap_or found None) (same version); live = live }
 
 -- and so does all where the entries stay
 pub latest_kept : (old new : Latest) → new.ids.entries ≡ old.ids.entries → (rows : List Row) → IsLatestOf rows old → IsLatestOf rows new

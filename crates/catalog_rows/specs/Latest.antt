@@ -1,11 +1,13 @@
 -- The table by which the last row of a version and the live versions of an id are found.
-use Rattle.std.specs.Prelude.{◌≡◌, ℕ, suc, List, [], ◌∷◌, Bool, map, slice_get, Option, Some, None, IsSome, option_map, string_bytes, String, if◌then◌else◌}
+use Rattle.std.specs.Prelude.{◌≡◌, ℕ, suc, List, [], ◌∷◌, Bool, true, map, slice_get, Option, Some, None, IsSome, option_map, string_bytes, String, if◌then◌else◌}
 use Rattle.std.specs.BTreeMap.{get_by_text}
 use Rattle.std.specs.List.{All}
 use Rattle.std.specs.Option.{option_and_then, option_map_or, option_or, unwrap_or}
 use Rattle.nuget_version.specs.Printed.{key_text}
 use Rattle.catalog_doc.specs.declared.row.Row.{Row}
 use Rattle.catalog_rows.specs.Last.{is_no_delete, is_of_keys, live_rows}
+use Rattle.std.specs.Str.{bytes_eq}
+use Rattle.catalog_rows.specs.declared.latest.Entered.{Entered}
 use Rattle.catalog_rows.specs.declared.latest.Latest.{Latest}
 use Rattle.catalog_rows.specs.declared.latest.OfId.{OfId}
 use Rattle.catalog_rows.specs.declared.rows.NewRows.{NewRows}
@@ -15,9 +17,31 @@ abbrev pub last_place : (Row → Bool) → List Row → Option ℕ
 last_place test [] = None
 last_place test (row ∷ rows) = option_or (option_map suc (last_place test rows)) (if test row then Some 0 else None)
 
+-- no other version than this one stands by itself
+abbrev pub is_first : Option Entered → List ℕ → Bool
+is_first None version = true
+is_first (Some e) version = bytes_eq (string_bytes e.key) version
+
+-- what stands for a version, of the one that stands by itself and of what stands for it among the others
+abbrev pub first_or : Option Entered → List ℕ → Option (Option ℕ) → Option (Option ℕ)
+first_or None version other = other
+first_or (Some e) version other = if bytes_eq (string_bytes e.key) version then Some e.place else other
+
+-- what is entered for a version of the id, if it is
+abbrev pub entered_in : OfId → List ℕ → Option (Option ℕ)
+entered_in of_id version = first_or of_id.first version (get_by_text of_id.others version)
+
+-- this place is entered for the version, and the same for the others
+abbrev pub IsPut : List ℕ → Option ℕ → OfId → OfId → Type 0
+IsPut key place old new = (version : List ℕ) → entered_in new version ≡ (if bytes_eq key version then Some place else entered_in old version)
+
+-- the same is entered
+abbrev pub EntersSame : OfId → OfId → Type 0
+EntersSame old new = (version : List ℕ) → entered_in new version ≡ entered_in old version
+
 -- what stands for a version in what is noted of its id, if the version is entered there
 abbrev pub entered_for : Option OfId → List ℕ → Option (Option ℕ)
-entered_for noted version = option_and_then (λ of_id. get_by_text of_id.places version) noted
+entered_for noted version = option_and_then (λ of_id. entered_in of_id version) noted
 
 -- the place that is noted of a version, none where it isn't entered
 abbrev pub place_noted : Option OfId → List ℕ → Option ℕ

@@ -1,22 +1,32 @@
 // A table by which the last row of a version and the live versions of an id are found.
 ghost use Rattle.std.specs.Prelude.{◌≡◌, ◌≤◌, ◌<◌, ◌+◌, ◌-◌, ◌^◌, ◌++◌, ◌∷◌, [], true, length, drop, take, List, if◌then◌else◌, ℕ};
-ghost use Rattle.std.specs.Prelude.{IfOk, IsOk, IsSome, None, Some, OnOk, string_bytes};
+ghost use Rattle.std.specs.Prelude.{IfOk, IsOk, IsSome, None, Some, OnErr, OnOk, string_bytes};
 ghost use Rattle.std.specs.BTreeMap.{get_by_text};
 ghost use Rattle.std.specs.List.{All};
 ghost use Rattle.nuget_version.specs.Printed.{key_text};
 ghost use Rattle.catalog_doc.specs.declared.row.Row.{Row};
-ghost use Rattle.catalog_rows.specs.Latest.{AreKeysOf, IsLatestOf, IsEntered, IsNoted, KeepsEntered, NotesSame, is_live_at, live_noted, place_noted};
+ghost use Rattle.catalog_rows.specs.Latest.{AreKeysOf, IsLatestOf, IsEntered, IsNoted, IsPut, EntersSame, KeepsEntered, NotesSame, entered_in, is_first, is_live_at, live_noted, place_noted};
 
 use catalog_doc::Row;
 use pkg_meta::{NoMemory, PackageId, Version};
 use std::alloc::Global;
 use std::collections::BTreeMap;
 
+/// A version by its key, and where its last row stands; it has no place while it has no row.
+#[derive(Drop)]
+pub(crate) struct Entered {
+    pub(crate) key: String,
+    pub(crate) place: Option<usize>,
+}
+
 /// What is noted of an id: where the last row of each of its versions stands, and how many of them are live.
+///
+/// One version stands by itself, so that an id of one version takes no memory for a map.
 #[derive(Drop)]
 pub(crate) struct OfId {
-    // By the key of the version; it has no place while it has no row.
-    pub(crate) places: BTreeMap<String, Option<usize>>,
+    pub(crate) first: Option<Entered>,
+    // The others, by their keys.
+    pub(crate) others: BTreeMap<String, Option<usize>>,
     pub(crate) live: usize,
 }
 
@@ -55,26 +65,73 @@ impl OfId {
         ensures { NotesSame None (Some result) }
     {
         OfId {
-            places: BTreeMap::new(alloc),
+            first: None,
+            others: BTreeMap::new(alloc),
             live: 0,
         }
+    }
+
+    // Whether no other version than the one with this key stands by itself.
+    fn is_first(&self, version: &str) -> bool
+        ensures { result ≡ is_first self.now.first version.now }
+    {
+        match &self.first {
+            Some(first) => first.key.as_str() == version,
+            None => true,
+        }
+    }
+
+    // What is entered for the version with this key, if it is.
+    fn entered(&self, version: &str) -> Option<Option<usize>>
+        ensures { result ≡ entered_in self.now version.now }
+    {
+        if let Some(first) = &self.first {
+            if first.key.as_str() == version {
+                return Some(first.place);
+            }
+        }
+        self.others.get(version).copied()
+    }
+
+    // Puts a place for the version with this key, and tells what was entered for it.
+    fn put(
+        &mut self,
+        version: String,
+        place: Option<usize>,
+    ) -> Result<Option<Option<usize>>, NoMemory>
+        ensures put { OnOk result (IsPut (string_bytes version) place self.old self.new) }
+        ensures before { IfOk result (λ before. before ≡ entered_in self.old (string_bytes version)) }
+        ensures live { self.new.live ≡ self.old.live }
+        ensures entered { IsSome (entered_in self.old (string_bytes version)) → IsOk result }
+        ensures same { OnErr result (EntersSame self.old self.new) }
+    {
+        if !self.is_first(version.as_str()) {
+            let before = self.others.insert(version, place)?;
+            return Ok(before);
+        }
+        let before = self.entered(version.as_str());
+        self.first = Some(Entered {
+            key: version,
+            place,
+        });
+        Ok(before)
     }
 
     // The place of the last row of the version with this key.
     fn place(&self, version: &str) -> Option<usize>
         ensures { result ≡ place_noted (Some self.now) version.now }
     {
-        self.places.get(version).copied().unwrap_or(None)
+        self.entered(version).unwrap_or(None)
     }
 
     // Enters a version, without a place where it is new.
     fn enter(&mut self, alloc: Global, version: &str) -> Result<(), NoMemory>
-        ensures entered { OnOk result (IsSome (get_by_text self.new.places version.now)) }
+        ensures entered { OnOk result (IsSome (entered_in self.new version.now)) }
         ensures keeps { KeepsEntered (Some self.old) (Some self.new) }
         ensures same { NotesSame (Some self.old) (Some self.new) }
     {
-        if !self.places.contains_key(version) {
-            self.places.insert(String::from_str(alloc, version)?, None)?;
+        if self.entered(version).is_none() {
+            self.put(String::from_str(alloc, version)?, None)?;
         }
         Ok(())
     }
@@ -84,10 +141,10 @@ impl OfId {
         requires { string_bytes version ≡ key_text row.now.version }
         ensures ok { OnOk result (IsNoted row.now.id.key earlier.now (Some self.old)
             → IsNoted row.now.id.key (earlier.now ++ row.now ∷ []) (Some self.new)) }
-        ensures entered { IsSome (get_by_text self.old.places (string_bytes version)) → IsOk result }
+        ensures entered { IsSome (entered_in self.old (string_bytes version)) → IsOk result }
         ensures keeps { KeepsEntered (Some self.old) (Some self.new) }
     {
-        let place = self.places.insert(version, Some(earlier.len()))?;
+        let place = self.put(version, Some(earlier.len()))?;
         let was_live = is_live_at(earlier, place.unwrap_or(None));
         self.live = count_with(self.live, was_live, row.gone);
         Ok(())

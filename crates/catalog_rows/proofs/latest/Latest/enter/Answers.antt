@@ -1,6 +1,8 @@
-use Rattle.std.proofs.Common.{◌∙◌, ap, None, Some}
-use Rattle.std.specs.Prelude.{string_bytes}
-use Rattle.catalog_rows.proofs.Table.{change_new, change_written, latest_kept, latest_same, entered_still, same_then}
+use Rattle.std.proofs.Common.{◌∙◌, ap, None, Some, subst}
+use Rattle.std.specs.Prelude.{IsSome, string_bytes}
+use Rattle.nuget_version.specs.Printed.{key_text}
+use Rattle.catalog_rows.specs.Latest.{entered_in}
+use Rattle.catalog_rows.proofs.Table.{change_new, change_written, entered_there, latest_kept, latest_same, entered_still, same_then}
 use Rattle.catalog_rows.proofs.latest.Latest.enter.Goals as goal
 
 pub returns-in_err-enter-in-None-clause-same : goal.returns-in_err-enter-in-None-clause-same
@@ -43,3 +45,11 @@ returns-in_ok-insert-in-None-clause-same c =
     c.get_mut.follows.holds-at-none c.in_ok-insert-in-None.ensures.updates in
     latest_same c.args.row.now.id.key None c.enter-in-None.new.self c.args.self.now (record { ids = c.insert.new.self }) change
     (same_then None (Some c.new-of_id.result) (Some c.enter-in-None.new.self) c.new-of_id.ensures c.enter-in-None.ensures.same)
+
+pub returns-in_ok-insert-in-None-clause-entered : goal.returns-in_ok-insert-in-None-clause-entered
+returns-in_ok-insert-in-None-clause-entered c =
+    let change = change_new c.args.row.now.id.key c.as_str-id.result.now (string_bytes c.in_ok-from_str-in-None.field-0) c.enter-in-None.new.self c.args.self.now
+    (record { ids = c.get_mut.follows.lender-at-none }) (record { ids = c.insert.new.self }) c.as_str-id.ensures c.in_ok-from_str-in-None.ensures.ok c.in-None.ensures.value
+    c.get_mut.follows.holds-at-none c.in_ok-insert-in-None.ensures.updates in
+    entered_there c.args.row.now.id.key None c.enter-in-None.new.self c.args.self.now (record { ids = c.insert.new.self }) change (key_text c.args.row.now.version)
+    (subst (λ version. IsSome (entered_in c.enter-in-None.new.self version)) c.requires c.in_ok-enter-in-None.ensures.entered)
