@@ -3,7 +3,8 @@
 # same puts with all their syncs. The two take turns, publish by publish, so that the disk is the same for both. Then the
 # three hives of catalogs of 128, 256 and 512 packages, each hive by one process, beside the bare puts of the same
 # documents. Then commits of 64 packages beside the same packages one by one, and openings of catalogs of 2,000 to 200,000
-# items beside a program that reads and parses the same pages: of Rust with stock serde_json, or else of Python. Then jobs of catalogs of
+# items, with one version an id and with twenty, beside a program that reads and parses the same pages: of Rust with stock
+# serde_json, or else of Python. Then jobs of catalogs of
 # 2,000 and 10,000 versions, the first of each beside the bare puts that it makes, and jobs behind one publish each: of those
 # it is checked that they read no leaf but the new one and no state of another id, and put nothing of another id. Last the
 # requests of a link in memory that are served in a second, beside the same loop in Rust over stock httparse, with the
@@ -152,7 +153,15 @@ def dump(name, value):
     with open(name, "w", encoding="ascii") as file:
         json.dump(value, file, separators=(",", ":"))
 
-def catalog_of(area, items, named=lambda at: (f"Some.Package{at}", "1.0.0")):
+def one_version(at):
+    """An id and a version, of ids with one version each."""
+    return f"Some.Package{at}", "1.0.0"
+
+def twenty_versions(at):
+    """The same of ids of which 200,000 items have twenty versions each."""
+    return f"Some.Package{at % 10_000}", f"1.{at // 10_000}.0"
+
+def catalog_of(area, items, named=one_version):
     """The index and the pages of a catalog of so many publishes, 64 a commit; no opening reads leaves."""
     base, heads = "http://f.test/v3/catalog/", []
     os.makedirs(area)
@@ -217,13 +226,14 @@ def rust_program(source, package, registry):
 def openings():
     parser = rust_program("parse", "serde_json", REGISTRY)
     reader, name = ([parser], "serde_json in Rust") if parser else ([sys.executable, "-c", PARSE], "Python's reader")
-    for items in ITEMS:
-        folder = f"{work}/items{items}"
-        pages = catalog_of(folder + "/catalog", items)
+    shapes = [(items, "one version", one_version) for items in ITEMS] + [(ITEMS[-1], "twenty versions", twenty_versions)]
+    for items, versions, named in shapes:
+        folder = f"{work}/{named.__name__}{items}"
+        pages = catalog_of(folder + "/catalog", items, named)
         length = sum(os.path.getsize(f"{folder}/catalog/page{page}.json") for page in range(pages))
         ours, memory = best_of(3, [feed, folder, "get", "/v3/catalog/index.json"])
         theirs, _ = best_of(3, [*reader, folder + "/catalog", str(pages)])
-        print(f"opening {items} items, {length / (1 << 20):.1f} MiB of pages: {ours * 1000:.0f} ms, {ours / items * 1e6:.2f} us an item, "
+        print(f"opening {items} items, {versions} an id, {length / (1 << 20):.1f} MiB of pages: {ours * 1000:.0f} ms, {ours / items * 1e6:.2f} us an item, "
               f"{memory / 1024:.1f} MiB of memory at the most; {name} {theirs * 1000:.0f} ms, ratio {ours / theirs:.2f}")
 
 def answered(program, requests, environment=None):
