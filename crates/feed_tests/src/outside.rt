@@ -65,16 +65,21 @@ fn long(alloc: Global) -> Result<Bytes, Fail> {
     Ok(Bytes::of(long))
 }
 
+// What is answered where all is taken, or this refuses it.
+fn wanted(all: &[u8], refusal: Option<TakeErr>) -> Result<&[u8], TakeErr> {
+    match refusal {
+        Some(error) => Err(error),
+        None => Ok(all),
+    }
+}
+
 #[test]
 fn takes_more_than_one_piece(rt: HostRuntime) -> Result<(), Fail> {
     let alloc = rt.alloc();
     let all = long(alloc)?;
     for (fails, limit, refusal) in &LONG {
         let mut source = SourceMem::of(alloc, long(alloc)?, *fails)?;
-        let want = match refusal {
-            Some(error) => Err(*error),
-            None => Ok(all.as_slice()),
-        };
+        let want = wanted(all.as_slice(), *refusal);
         takes(&rt, alloc, &mut source, *limit, want);
     }
     Ok(())
