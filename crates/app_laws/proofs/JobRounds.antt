@@ -8,7 +8,7 @@ use Rattle.blob_store.specs.Seen.{IsSure, Seen}
 use Rattle.blob_store.proofs.Moments.{started}
 use Rattle.pkg_meta.specs.Catalog.{Catalog}
 use Rattle.catalog_core.specs.Opened.{IsOpenFor}
-use Rattle.fold_core.specs.Docs.{doc_at, owner}
+use Rattle.fold_core.specs.Docs.{id_doc, owner}
 use Rattle.fold_core.specs.Folds.{Fold}
 use Rattle.fold_core.specs.declared.hive.HiveName.{HiveName}
 use Rattle.hive_laws.specs.Areas.{SettledArea, SoundArea}
@@ -126,14 +126,14 @@ unmoved {B} m old new blobs P sure is here same =
 
 -- a settled area is what the hive makes of the catalog from scratch
 pub scratch_of : (hive : HiveName) (base : List ℕ) (cs : Catalog) (key name : List ℕ) → owner name ≡ Some key
-    → from_scratch hive base cs name ≡ doc_at (keeps_in hive) (makes_in hive) base cs key name
-scratch_of hive base cs key name own = ap (option_and_then (λ (q : List ℕ). doc_at (keeps_in hive) (makes_in hive) base cs q name)) own
+    → from_scratch hive base cs name ≡ id_doc (keeps_in hive) (makes_in hive) base cs key name
+scratch_of hive base cs key name own = ap (option_and_then (λ (q : List ℕ). id_doc (keeps_in hive) (makes_in hive) base cs q name)) own
 
 pub made_of_all : (hive : HiveName) (base : List ℕ) (cs : Catalog) (left : Area) → SettledArea (hive_fold hive base) cs (length cs) left → IsFromScratchOf hive base cs left
 made_of_all hive base cs left settled = record {
   documents = λ key name own.
       (settled.1.settled key).holds name own
-      ∙ ap (λ (ds : Catalog). doc_at (keeps_in hive) (makes_in hive) base ds key name) (take_all (length cs) cs (omega arith))
+      ∙ ap (λ (ds : Catalog). id_doc (keeps_in hive) (makes_in hive) base ds key name) (take_all (length cs) cs (omega arith))
       ∙ sym (scratch_of hive base cs key name own);
   cursor = settled.1.area.cursor;
   others = settled.1.area.known;

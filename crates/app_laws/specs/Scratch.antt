@@ -5,14 +5,14 @@ use Rattle.std.specs.Option.{option_and_then}
 use Rattle.blob_store.specs.Area.{Area}
 use Rattle.pkg_meta.specs.Catalog.{Catalog}
 use Rattle.cursor_doc.specs.Cursor.{cursor_name}
-use Rattle.fold_core.specs.Docs.{doc_at, owner}
+use Rattle.fold_core.specs.Docs.{id_doc, owner}
 use Rattle.fold_core.specs.declared.hive.HiveName.{HiveName}
 use Rattle.hive_laws.specs.Areas.{IsHiveName, cursor_at}
 use Rattle.feed_app.specs.Hives.{keeps_in, makes_in}
 
 -- the bytes of the document of this name that a hive makes of a catalog below a base address, or nothing
 abbrev pub from_scratch : HiveName → List ℕ → Catalog → List ℕ → Option (List ℕ)
-from_scratch hive base cs name = option_and_then (λ (key : List ℕ). doc_at (keeps_in hive) (makes_in hive) base cs key name) (owner name)
+from_scratch hive base cs name = option_and_then (λ (key : List ℕ). id_doc (keeps_in hive) (makes_in hive) base cs key name) (owner name)
 
 -- An area is what the hive makes of a catalog: each document that an id owns, and no other, and the cursor of the last commit. Beside
 -- these it holds states alone.

@@ -7,7 +7,7 @@ use Rattle.nuget_version.specs.Printed.{full_text}
 use Rattle.pkg_meta.specs.declared.item.Details.{Details}
 use Rattle.pkg_meta.specs.declared.entry.Entry.{Entry}
 use Rattle.pkg_meta.specs.Entries.{version_in}
-use Rattle.fold_core.specs.Docs.{index_name}
+use Rattle.fold_core.specs.Docs.{id_index_name}
 use Rattle.fold_core.specs.declared.doc.Body.TheVariants.{Made}
 use Rattle.fold_core.specs.declared.doc.Doc.{Doc}
 
@@ -38,7 +38,7 @@ index_text es = compact_text (auto_index_object (last_id es) (map auto_version_d
 
 -- the id's index
 abbrev pub auto_index_doc : List ℕ → List Entry → Doc
-auto_index_doc key es = record { name = index_name key; body = Made (index_text es) }
+auto_index_doc key es = record { name = id_index_name key; body = Made (index_text es) }
 
 -- none for no entries
 abbrev pub auto_docs : List ℕ → List ℕ → ℕ → ℕ → List Entry → List Doc

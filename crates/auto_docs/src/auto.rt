@@ -1,7 +1,7 @@
 // The auto hive.
 ghost use Rattle.std.specs.Prelude.{refl};
 ghost use Rattle.auto_docs.specs.Documents.{auto_docs, keeps_listed};
-ghost use Rattle.auto_docs.specs.Laws.{docs_distinct, docs_indexed, docs_owned, docs_staged};
+ghost use Rattle.auto_docs.specs.Laws.{auto_docs_distinct, auto_docs_indexed, auto_docs_owned, auto_docs_staged};
 
 use crate::index::auto_docs;
 use fold_core::{Details, Doc, Entry, Hive, HiveName, Many, NoMemory, Ticks};
@@ -37,11 +37,11 @@ impl Hive for Auto {
 
     ghost empty = { λ base key number stamp. refl };
 
-    ghost owned = { docs_owned };
+    ghost owned = { auto_docs_owned };
 
-    ghost distinct = { λ base key number stamp es whole rising. docs_distinct base key number stamp es };
+    ghost distinct = { λ base key number stamp es whole rising. auto_docs_distinct base key number stamp es };
 
-    ghost indexed = { docs_indexed };
+    ghost indexed = { auto_docs_indexed };
 
-    ghost staged = { docs_staged };
+    ghost staged = { auto_docs_staged };
 }

@@ -1,7 +1,7 @@
 // The list of an id's listed versions.
 ghost use Rattle.std.specs.Prelude.{◌≡◌, ℕ, List, IfOk, map};
 ghost use Rattle.serde_json.specs.View.{view};
-ghost use Rattle.fold_core.specs.Docs.{index_name};
+ghost use Rattle.fold_core.specs.Docs.{id_index_name};
 ghost use Rattle.auto_docs.specs.Documents.{auto_docs, auto_index_doc, auto_index_object, index_text, last_id, auto_version_data};
 
 use fold_core::{Body, Bytes, Doc, Entry, Many, NoMemory, Text};
@@ -52,7 +52,7 @@ fn index_bytes(alloc: Global, entries: &[Entry]) -> Result<Bytes, NoMemory>
 }
 
 fn index_name(alloc: Global, key: &str) -> Result<Text, NoMemory>
-    ensures { IfOk result (λ name. name ≡ index_name key.now) }
+    ensures { IfOk result (λ name. name ≡ id_index_name key.now) }
 {
     let name = format!(in alloc; "d/{key}/index.json")?;
     Ok(Text::of(name))

@@ -1,8 +1,8 @@
 -- The laws of each hive's documents.
 use Rattle.std.proofs.Common.{◌≡◌, ℕ, List, [], refl}
-use Rattle.auto_docs.specs.Laws.{docs_owned as auto_owned, docs_staged as auto_staged}
-use Rattle.flat_container.specs.Laws.{docs_owned as content_owned, docs_staged as content_staged}
-use Rattle.reg_docs.specs.Laws.{docs_owned as registration_owned, docs_staged as registration_staged}
+use Rattle.auto_docs.specs.Laws.{auto_docs_owned as auto_owned, auto_docs_staged as auto_staged}
+use Rattle.flat_container.specs.Laws.{content_docs_owned as content_owned, content_docs_staged as content_staged}
+use Rattle.reg_docs.specs.Laws.{registration_docs_owned as registration_owned, registration_docs_staged as registration_staged}
 use Rattle.reg_docs.specs.declared.addresses.RegistrationHive.TheVariants as registration
 use Rattle.pkg_meta.specs.Catalog.{Catalog}
 use Rattle.pkg_meta.specs.Lawful.{IsLawful}

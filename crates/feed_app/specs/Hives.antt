@@ -4,7 +4,7 @@ use Rattle.std.specs.Str.{bytes_eq}
 use Rattle.admin_wire.specs.Lines.{hive_text}
 use Rattle.auto_docs.specs.Documents.{auto_docs, keeps_listed}
 use Rattle.catalog_core.specs.declared.stores.Stores.{Stores}
-use Rattle.fold_core.specs.Docs.{Makes}
+use Rattle.fold_core.specs.Docs.{MakesDocs}
 use Rattle.fold_core.specs.Entries.{Keeps}
 use Rattle.fold_core.specs.Folds.{Fold, fold_of}
 use Rattle.flat_container.specs.Documents.{content_docs, keeps_all}
@@ -69,7 +69,7 @@ keeps_in hives.Content = keeps_all
 keeps_in hives.Auto = keeps_listed
 
 -- which documents it makes
-abbrev pub makes_in : HiveName → Makes
+abbrev pub makes_in : HiveName → MakesDocs
 makes_in hives.Plain = registration_docs registration.Plain
 makes_in hives.SemVer2 = registration_docs registration.SemVer2
 makes_in hives.Content = content_docs

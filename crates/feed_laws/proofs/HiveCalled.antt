@@ -13,7 +13,7 @@ use Rattle.blob_store.proofs.Areas.{get_changed_other, get_changed_same}
 use Rattle.pkg_meta.specs.Catalog.{Catalog}
 use Rattle.pkg_meta.specs.declared.state.StateDoc.{StateDoc}
 use Rattle.hive_state.specs.State.{state_name, state_text}
-use Rattle.fold_core.specs.Docs.{index_name, owner}
+use Rattle.fold_core.specs.Docs.{id_index_name, owner}
 use Rattle.fold_core.specs.Events.{IsIndexDone}
 use Rattle.fold_core.specs.Folds.{Fold, Look, made_at, touched_by}
 use Rattle.fold_core.specs.Items.{commits_of}
@@ -65,7 +65,7 @@ module _ (f : Fold) (cs : Catalog) (k : ℕ) where
     )
 
   -- the steps of a pass over an id
-  module _ (laws : FoldLaws f cs) (key : List ℕ) (mine : owner (index_name key) ≡ Some key) where
+  module _ (laws : FoldLaws f cs) (key : List ℕ) (mine : owner (id_index_name key) ≡ Some key) where
     -- the id's documents are those that the steps leave
     abbrev Agrees : Look (List ℕ) → Area → Type 0
     Agrees held m = (q : List ℕ) → owner q ≡ Some key → get m q ≡ held q
@@ -100,7 +100,7 @@ module _ (f : Fold) (cs : Catalog) (k : ℕ) where
     index_done : (n : ℕ) (name : List ℕ) (held : Look (List ℕ)) (m : Area) → Agrees held m → IsIndexDone f cs key n name held → IsIndexDone f cs key n name (get m)
     index_done n name held m agrees (inl all) = inl (all.0, λ q is. agrees q (made_own n q is) ∙ all.1 q is)
     index_done n name held m agrees (inr (none, inl e)) = inr (none, inl e)
-    index_done n name held m agrees (inr (none, inr gone)) = inr (none, inr (agrees (index_name key) mine ∙ gone))
+    index_done n name held m agrees (inr (none, inr gone)) = inr (none, inr (agrees (id_index_name key) mine ∙ gone))
 
     step_meets : (step : Step) (kept : KeptOfId) (m : Area) → Agrees kept.held m → IsStored key m kept.stored → IsAllowed f cs key k step kept
         → MeetsOnHive f cs k m (Change (call_of key step))
@@ -164,7 +164,7 @@ module _ (f : Fold) (cs : Catalog) (k : ℕ) where
     allowed : AreAllowed f cs key k (pass_steps key plan) kept_before
     allowed = pass_allowed f cs laws c k key kept_before plan sound item is_plan.leads
 
-    whole : owner (index_name key) ≡ Some key
+    whole : owner (id_index_name key) ≡ Some key
     whole = owner_of key (codes "index.json") (item_whole (take k (commits_of cs)) key (omega arith))
 
     pub pass_meets : MeetAllOnHive f cs k m (all_done (map Change (plan_calls key plan)))

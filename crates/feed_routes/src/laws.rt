@@ -1,6 +1,6 @@
 // What holds of the table. The functions do nothing.
 ghost use Rattle.std.specs.Prelude.{◌≡◌, ◌↔◌, ◌<◌, ◌^◌, ◌++◌, List, ℕ, IsTrue, codes, decimal};
-ghost use Rattle.fold_core.specs.Docs.{name_of};
+ghost use Rattle.fold_core.specs.Docs.{name_below};
 ghost use Rattle.http_wire.specs.declared.response.Verb.{Verb};
 ghost use Rattle.nuget_version.specs.Printed.{key_text};
 ghost use Rattle.nuget_version.specs.declared.version.Version.{Version};
@@ -37,12 +37,12 @@ pub fn documents_have_routes()
         → let name = codes "data/" ++ (decimal n ++ (codes "/" ++ (decimal place ++ codes ".json"))) in
         AsksFor (codes "/v3/catalog/" ++ name) query (ask.CatalogDoc name) }
     ensures plain { (text tail query : List ℕ) → IsShortId text → IsRegistrationTail tail
-        → let key = id_key text in AsksFor (codes "/v3/registration/" ++ (key ++ (codes "/" ++ tail))) query (ask.Registration hive.Plain (name_of key tail)) }
+        → let key = id_key text in AsksFor (codes "/v3/registration/" ++ (key ++ (codes "/" ++ tail))) query (ask.Registration hive.Plain (name_below key tail)) }
     ensures semver2 { (text tail query : List ℕ) → IsShortId text → IsRegistrationTail tail
         → let key = id_key text in
-        AsksFor (codes "/v3/registration-semver2/" ++ (key ++ (codes "/" ++ tail))) query (ask.Registration hive.SemVer2 (name_of key tail)) }
+        AsksFor (codes "/v3/registration-semver2/" ++ (key ++ (codes "/" ++ tail))) query (ask.Registration hive.SemVer2 (name_below key tail)) }
     ensures content { (text tail query : List ℕ) → IsShortId text → IsContentTailOf (id_key text) tail
-        → let key = id_key text in AsksFor (codes "/v3/flat/" ++ (key ++ (codes "/" ++ tail))) query (ask.Flat (name_of key tail)) }
+        → let key = id_key text in AsksFor (codes "/v3/flat/" ++ (key ++ (codes "/" ++ tail))) query (ask.Flat (name_below key tail)) }
 {}
 
 /// The test of base addresses tells exactly these.

@@ -3,10 +3,9 @@ use Rattle.std.specs.Prelude.{ℕ, List, [], ◌∷◌, map, flat_map, codes, Bo
 use Rattle.serde_json.specs.Data.{Data, string, array, object, member, no_members}
 use Rattle.serde_json.specs.View.{items_of}
 use Rattle.serde_json.specs.Written.{compact_text}
-use Rattle.nuget_version.specs.Printed.{key_text}
 use Rattle.pkg_meta.specs.declared.item.Details.{Details}
-use Rattle.fold_core.specs.Docs.{index_name}
-use Rattle.pkg_meta.specs.Entries.{version_in}
+use Rattle.fold_core.specs.Docs.{id_index_name}
+use Rattle.pkg_meta.specs.Entries.{key_in}
 use Rattle.fold_core.specs.declared.doc.Body.{Body}
 use Rattle.fold_core.specs.declared.doc.Body.TheVariants.{Made, Staged as FromPublish}
 use Rattle.fold_core.specs.declared.doc.Doc.{Doc}
@@ -16,10 +15,6 @@ use Rattle.flat_container.specs.Names.{content_package_name, content_manifest_na
 -- every version is served, the unlisted too
 abbrev pub keeps_all : Details → Bool
 keeps_all d = true
-
--- the key of an entry's version
-abbrev pub key_in : Entry → List ℕ
-key_in e = key_text (version_in e)
 
 -- that key as JSON
 abbrev pub version_data : Entry → Data
@@ -35,7 +30,7 @@ index_text es = compact_text (content_index_object (map version_data es))
 
 -- the id's index
 abbrev pub index_doc : List ℕ → List Entry → Doc
-index_doc key es = record { name = index_name key; body = Made (index_text es) }
+index_doc key es = record { name = id_index_name key; body = Made (index_text es) }
 
 -- what the publish at the entry's origin brought
 abbrev pub brought : Bool → Entry → Body

@@ -9,24 +9,24 @@ use Rattle.std.specs.Str.{bytes_eq}
 use Rattle.std.specs.declared.cmp.Ordering.TheVariants.{Less}
 use Rattle.nuget_version.specs.Precedence.{precedence}
 use Rattle.nuget_version.proofs.Forms.{key-no_slash, key_filled}
-use Rattle.fold_core.specs.Docs.{before_slash, index_name, look_up, name_of}
+use Rattle.fold_core.specs.Docs.{before_slash, id_index_name, body_named, name_below}
 use Rattle.fold_core.proofs.DocNames.{apart, found_first, owner_of, whole_front}
 use Rattle.fold_core.proofs.Versions.{other_key}
-use Rattle.pkg_meta.specs.Entries.{AreRising, version_in}
+use Rattle.pkg_meta.specs.Entries.{AreRising, key_in, version_in}
 use Rattle.fold_core.specs.Laws.{AreOfEntries, AreOwned, HaveOwnNames, IsOfEntry, IsWhole, has_origin}
 use Rattle.fold_core.specs.declared.doc.Body.{Body}
 use Rattle.fold_core.specs.declared.doc.Body.TheVariants.{Made, Staged as FromPublish}
 use Rattle.fold_core.specs.declared.doc.Doc.{Doc}
 use Rattle.pkg_meta.specs.declared.entry.Entry.{Entry}
-use Rattle.flat_container.specs.Documents.{content_docs, file_docs, index_doc, key_in}
+use Rattle.flat_container.specs.Documents.{content_docs, file_docs, index_doc}
 
 files_owned : (key : List ℕ) (es : List Entry) → IsWhole key → AreOwned key (flat_map (file_docs key) es)
 files_owned key [] whole = tt
 files_owned key (e ∷ es) whole = (owner_of key _ whole, (owner_of key _ whole, files_owned key es whole))
 
-pub docs_owned : (base key : List ℕ) (number stamp : ℕ) (es : List Entry) → IsWhole key → AreOwned key (content_docs base key number stamp es)
-docs_owned base key number stamp [] whole = tt
-docs_owned base key number stamp (e ∷ es) whole = (owner_of key _ whole, files_owned key (e ∷ es) whole)
+pub content_docs_owned : (base key : List ℕ) (number stamp : ℕ) (es : List Entry) → IsWhole key → AreOwned key (content_docs base key number stamp es)
+content_docs_owned base key number stamp [] whole = tt
+content_docs_owned base key number stamp (e ∷ es) whole = (owner_of key _ whole, files_owned key (e ∷ es) whole)
 
 inside : (x y : List ℕ) → Some x ≡ Some y → x ≡ y
 inside x y e = cc
@@ -52,12 +52,12 @@ other_kind key e same =
     let filled : 0 < length (key_in e) = key_filled (version_in e) in
     omega (arith, long, parts, filled)
 
-index_apart : (key : List ℕ) (es : List Entry) → AllByRecursion (λ y. bytes_eq (index_name key) y ≡ false) (map (λ (d : Doc). d.name) (flat_map (file_docs key) es))
+index_apart : (key : List ℕ) (es : List Entry) → AllByRecursion (λ y. bytes_eq (id_index_name key) y ≡ false) (map (λ (d : Doc). d.name) (flat_map (file_docs key) es))
 index_apart key [] = tt
 index_apart key (e ∷ es) = (apart key _ _ (not_index e _), (apart key _ _ (not_index e _), index_apart key es))
 
 file_apart : (key : List ℕ) (e : Entry) (rest : List ℕ) (es : List Entry) → AllByRecursion (λ w. precedence (version_in e) w ≡ Less) (map version_in es)
-    → AllByRecursion (λ y. bytes_eq (name_of key (key_in e ++ (codes "/" ++ rest))) y ≡ false) (map (λ (d : Doc). d.name) (flat_map (file_docs key) es))
+    → AllByRecursion (λ y. bytes_eq (name_below key (key_in e ++ (codes "/" ++ rest))) y ≡ false) (map (λ (d : Doc). d.name) (flat_map (file_docs key) es))
 file_apart key e rest [] below = tt
 file_apart key e rest (f ∷ es) below =
     (apart key _ _ (other_version e f rest _ below.0), (apart key _ _ (other_version e f rest _ below.0), file_apart key e rest es below.1))
@@ -68,14 +68,14 @@ files_distinct key [] rising = tt
 files_distinct key (e ∷ es) rising =
     ((apart key _ _ (other_kind key e), file_apart key e _ es rising.0), (file_apart key e _ es rising.0, files_distinct key es rising.1))
 
-pub docs_distinct : (base key : List ℕ) (number stamp : ℕ) (es : List Entry) → AreRising es → HaveOwnNames (content_docs base key number stamp es)
+pub content_docs_distinct : (base key : List ℕ) (number stamp : ℕ) (es : List Entry) → AreRising es → HaveOwnNames (content_docs base key number stamp es)
 unfolding IsDistinct
-docs_distinct base key number stamp [] rising = tt
-docs_distinct base key number stamp (e ∷ es) rising = (index_apart key (e ∷ es), files_distinct key (e ∷ es) rising)
+content_docs_distinct base key number stamp [] rising = tt
+content_docs_distinct base key number stamp (e ∷ es) rising = (index_apart key (e ∷ es), files_distinct key (e ∷ es) rising)
 
-pub docs_indexed : (base key : List ℕ) (number stamp : ℕ) (es : List Entry) → es ≢ [] → IsSome (look_up (index_name key) (content_docs base key number stamp es))
-docs_indexed base key number stamp [] some = absurd (some refl)
-docs_indexed base key number stamp (e ∷ es) some = found_first (index_name key) (index_doc key (e ∷ es)) (flat_map (file_docs key) (e ∷ es)) refl
+pub content_docs_indexed : (base key : List ℕ) (number stamp : ℕ) (es : List Entry) → es ≢ [] → IsSome (body_named (id_index_name key) (content_docs base key number stamp es))
+content_docs_indexed base key number stamp [] some = absurd (some refl)
+content_docs_indexed base key number stamp (e ∷ es) some = found_first (id_index_name key) (index_doc key (e ∷ es)) (flat_map (file_docs key) (e ∷ es)) refl
 
 or_true : (a b : Bool) → b ≡ true → (a || b) ≡ true
 or_true true b h = refl
@@ -99,6 +99,6 @@ files_of_entries : (key : List ℕ) (es : List Entry) → AreOfEntries es (flat_
 files_of_entries key [] = tt
 files_of_entries key (e ∷ es) = (own_origin e es, (own_origin e es, docs_of_more e es (flat_map (file_docs key) es) (files_of_entries key es)))
 
-pub docs_staged : (base key : List ℕ) (number stamp : ℕ) (es : List Entry) → AreOfEntries es (content_docs base key number stamp es)
-docs_staged base key number stamp [] = tt
-docs_staged base key number stamp (e ∷ es) = (tt, files_of_entries key (e ∷ es))
+pub content_docs_staged : (base key : List ℕ) (number stamp : ℕ) (es : List Entry) → AreOfEntries es (content_docs base key number stamp es)
+content_docs_staged base key number stamp [] = tt
+content_docs_staged base key number stamp (e ∷ es) = (tt, files_of_entries key (e ∷ es))

@@ -1,7 +1,7 @@
 // The content hive.
 ghost use Rattle.std.specs.Prelude.{refl};
 ghost use Rattle.flat_container.specs.Documents.{content_docs, keeps_all};
-ghost use Rattle.flat_container.specs.Laws.{docs_distinct, docs_indexed, docs_owned, docs_staged};
+ghost use Rattle.flat_container.specs.Laws.{content_docs_distinct, content_docs_indexed, content_docs_owned, content_docs_staged};
 
 use crate::docs::content_docs;
 use fold_core::{Details, Doc, Entry, Hive, HiveName, Many, NoMemory, Ticks};
@@ -37,11 +37,11 @@ impl Hive for Content {
 
     ghost empty = { λ base key number stamp. refl };
 
-    ghost owned = { docs_owned };
+    ghost owned = { content_docs_owned };
 
-    ghost distinct = { λ base key number stamp es whole rising. docs_distinct base key number stamp es rising };
+    ghost distinct = { λ base key number stamp es whole rising. content_docs_distinct base key number stamp es rising };
 
-    ghost indexed = { docs_indexed };
+    ghost indexed = { content_docs_indexed };
 
-    ghost staged = { docs_staged };
+    ghost staged = { content_docs_staged };
 }

@@ -1,8 +1,9 @@
 // The list of an id's versions.
 ghost use Rattle.std.specs.Prelude.{◌≡◌, IfOk, map};
 ghost use Rattle.serde_json.specs.View.{view};
-ghost use Rattle.fold_core.specs.Docs.{index_name};
-ghost use Rattle.flat_container.specs.Documents.{index_doc, content_index_object, index_text, key_in, version_data};
+ghost use Rattle.pkg_meta.specs.Entries.{key_in};
+ghost use Rattle.fold_core.specs.Docs.{id_index_name};
+ghost use Rattle.flat_container.specs.Documents.{index_doc, content_index_object, index_text, version_data};
 
 use fold_core::{Body, Bytes, Doc, Entry, NoMemory, Text};
 use serde_json::{Value, json};
@@ -48,7 +49,7 @@ fn index_bytes(alloc: Global, entries: &[Entry]) -> Result<Bytes, NoMemory>
 }
 
 fn index_name(alloc: Global, key: &str) -> Result<Text, NoMemory>
-    ensures { IfOk result (λ name. name ≡ index_name key.now) }
+    ensures { IfOk result (λ name. name ≡ id_index_name key.now) }
 {
     let name = format!(in alloc; "d/{key}/index.json")?;
     Ok(Text::of(name))

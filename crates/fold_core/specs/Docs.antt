@@ -26,25 +26,25 @@ owner (a ∷ []) = None
 owner (a ∷ b ∷ rest) = if (a == 100) && (b == 47) then before_slash rest else None
 
 -- a name below an id's folder
-abbrev pub name_of : List ℕ → List ℕ → List ℕ
-name_of key rest = codes "d/" ++ (key ++ (codes "/" ++ rest))
+abbrev pub name_below : List ℕ → List ℕ → List ℕ
+name_below key rest = codes "d/" ++ (key ++ (codes "/" ++ rest))
 
 -- the name of an id's index
-abbrev pub index_name : List ℕ → List ℕ
-index_name key = name_of key (codes "index.json")
+abbrev pub id_index_name : List ℕ → List ℕ
+id_index_name key = name_below key (codes "index.json")
 
 -- which documents a hive makes of a base address, a key, the last commit that has an item of the id, its stamp, and the entries
-abbrev pub Makes : Type 0
-Makes = List ℕ → List ℕ → ℕ → ℕ → List Entry → List Doc
+abbrev pub MakesDocs : Type 0
+MakesDocs = List ℕ → List ℕ → ℕ → ℕ → List Entry → List Doc
 
 -- an id's documents after these commits
-abbrev pub docs_of : Keeps → Makes → List ℕ → List Commit → List ℕ → List Doc
+abbrev pub docs_of : Keeps → MakesDocs → List ℕ → List Commit → List ℕ → List Doc
 docs_of keeps makes base cs key = makes base key (touched cs key) (touched_stamp cs key) (entries_of keeps (items_of cs key))
 
 -- the document with this name
-abbrev pub look_up : List ℕ → List Doc → Option Body
-look_up name [] = None
-look_up name (d ∷ docs) = if bytes_eq name d.name then Some d.body else look_up name docs
+abbrev pub body_named : List ℕ → List Doc → Option Body
+body_named name [] = None
+body_named name (d ∷ docs) = if bytes_eq name d.name then Some d.body else body_named name docs
 
 -- what the publish at this place of a commit brought
 abbrev pub brought_in : ℕ → Stored → Option Staged
@@ -60,10 +60,10 @@ abbrev pub part : Bool → Staged → List ℕ
 part nuspec s = if nuspec then s.nuspec else s.nupkg
 
 -- the bytes of a body, where the catalog has them
-abbrev pub bytes_of : Catalog → Body → Option (List ℕ)
-bytes_of cs (Made bytes) = Some bytes
-bytes_of cs (FromPublish number place nuspec) = option_map (part nuspec) (brought_at cs number place)
+abbrev pub body_bytes : Catalog → Body → Option (List ℕ)
+body_bytes cs (Made bytes) = Some bytes
+body_bytes cs (FromPublish number place nuspec) = option_map (part nuspec) (brought_at cs number place)
 
 -- the bytes of the document that an id has under a name
-abbrev pub doc_at : Keeps → Makes → List ℕ → Catalog → List ℕ → List ℕ → Option (List ℕ)
-doc_at keeps makes base cs key name = option_and_then (bytes_of cs) (look_up name (docs_of keeps makes base (commits_of cs) key))
+abbrev pub id_doc : Keeps → MakesDocs → List ℕ → Catalog → List ℕ → List ℕ → Option (List ℕ)
+id_doc keeps makes base cs key name = option_and_then (body_bytes cs) (body_named name (docs_of keeps makes base (commits_of cs) key))

@@ -2,7 +2,7 @@
 use Rattle.std.specs.Prelude.{◌≡◌, ◌≢◌, ◌⊎◌, ℕ, List, [], true, false, Contains, Option, Some, None, IsSome}
 use Rattle.pkg_meta.specs.Catalog.{Catalog}
 use Rattle.pkg_meta.specs.declared.state.StateDoc.{StateDoc}
-use Rattle.fold_core.specs.Docs.{index_name}
+use Rattle.fold_core.specs.Docs.{id_index_name}
 use Rattle.fold_core.specs.Folds.{Fold, HoldsAt, Look, NamesAt, made_at}
 use Rattle.fold_core.specs.Sound.{IsScratch}
 
@@ -44,13 +44,13 @@ pub record IsDocPut (f : Fold) (cs : Catalog) (key : List ℕ) (s : StateDoc) (n
   pub dirty : s.dirty ≡ true
   pub named : Contains s.names name
   pub made : made_at f cs key s.at name ≡ Some bytes
-  pub index : name ≡ index_name key → HoldsButFor f cs key s.at name held
+  pub index : name ≡ id_index_name key → HoldsButFor f cs key s.at name held
 
 -- `at` has an index, and all its documents are held; or it has none, and this is the index or none is held
 abbrev pub IsIndexDone : Fold → Catalog → List ℕ → ℕ → List ℕ → Look (List ℕ) → Type 0
 IsIndexDone f cs key k name held =
-    (IsSome (made_at f cs key k (index_name key)) × HoldsAll f cs key k held)
-    ⊎ ((made_at f cs key k (index_name key) ≡ None) × ((name ≡ index_name key) ⊎ (held (index_name key) ≡ None)))
+    (IsSome (made_at f cs key k (id_index_name key)) × HoldsAll f cs key k held)
+    ⊎ ((made_at f cs key k (id_index_name key) ≡ None) × ((name ≡ id_index_name key) ⊎ (held (id_index_name key) ≡ None)))
 
 -- a document that is deleted, beside the stored state s: one that `at` doesn't have, once the index is done
 pub record IsDocDelete (f : Fold) (cs : Catalog) (key : List ℕ) (s : StateDoc) (name : List ℕ) (held : Look (List ℕ)) : Type 0 where

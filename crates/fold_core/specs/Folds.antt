@@ -2,17 +2,17 @@
 use Rattle.std.specs.Prelude.{◌≡◌, ◌<◌, ◌≤◌, ℕ, List, take, false, Contains, Option, Some, None, IsSome}
 use Rattle.pkg_meta.specs.Catalog.{Catalog}
 use Rattle.pkg_meta.specs.declared.state.StateDoc.{StateDoc}
-use Rattle.fold_core.specs.Docs.{Makes, doc_at, owner}
+use Rattle.fold_core.specs.Docs.{MakesDocs, id_doc, owner}
 use Rattle.fold_core.specs.Entries.{Keeps}
 use Rattle.fold_core.specs.Items.{commits_of, touched_at}
 
 -- a hive below a base address: which details it keeps, and which documents it makes
 pub record Fold : Type 0 where
   pub keeps : Keeps
-  pub makes : Makes
+  pub makes : MakesDocs
   pub base : List ℕ
 
-abbrev pub fold_of : Keeps → Makes → List ℕ → Fold
+abbrev pub fold_of : Keeps → MakesDocs → List ℕ → Fold
 fold_of keeps makes base = record { keeps = keeps; makes = makes; base = base }
 
 -- what stands under each name, or nothing
@@ -25,7 +25,7 @@ touched_by cs key k = touched_at (commits_of cs) key k
 
 -- the bytes that an id's document of a name has after the first k commits, or nothing
 abbrev pub made_at : Fold → Catalog → List ℕ → ℕ → List ℕ → Option (List ℕ)
-made_at f cs key k name = doc_at f.keeps f.makes f.base (take k cs) key name
+made_at f cs key k name = id_doc f.keeps f.makes f.base (take k cs) key name
 
 -- under the id's document names stands what the first k commits make of it, and nothing else
 abbrev pub HoldsAt : Fold → Catalog → List ℕ → ℕ → Look (List ℕ) → Type 0

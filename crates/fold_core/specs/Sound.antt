@@ -2,7 +2,7 @@
 use Rattle.std.specs.Prelude.{◌≡◌, ◌<◌, ◌≤◌, ℕ, List, length, take, true, false, Contains, Option, Some, None, IsSome, ⊤}
 use Rattle.pkg_meta.specs.Catalog.{Catalog}
 use Rattle.pkg_meta.specs.declared.state.StateDoc.{StateDoc}
-use Rattle.fold_core.specs.Docs.{index_name, owner}
+use Rattle.fold_core.specs.Docs.{id_index_name, owner}
 use Rattle.fold_core.specs.Entries.{entries_of}
 use Rattle.fold_core.specs.Folds.{Fold, HoldsAt, Look, NamesAt, made_at, touched_by}
 use Rattle.fold_core.specs.Items.{commits_of, items_of, touched_stamp}
@@ -45,12 +45,12 @@ Fresh f cs c key held = (name : List ℕ) → owner name ≡ Some key
 pub record IsLinkedAt (f : Fold) (cs : Catalog) (c j : ℕ) (key : List ℕ) (held : Look (List ℕ)) : Type 0 where
   pub past : c ≤ j
   pub within : j ≤ length cs
-  pub index : held (index_name key) ≡ made_at f cs key j (index_name key)
+  pub index : held (id_index_name key) ≡ made_at f cs key j (id_index_name key)
   pub all : (name : List ℕ) → IsSome (made_at f cs key j name) → IsSome (held name)
 
 -- where the id's index is held, it is that of such a prefix
 abbrev pub Linked : Fold → Catalog → ℕ → List ℕ → Look (List ℕ) → Type 0
-Linked f cs c key held = owner (index_name key) ≡ Some key → IsSome (held (index_name key)) → (j : ℕ) × IsLinkedAt f cs c j key held
+Linked f cs c key held = owner (id_index_name key) ≡ Some key → IsSome (held (id_index_name key)) → (j : ℕ) × IsLinkedAt f cs c j key held
 
 -- what holds of an id of a hive at every moment
 pub record IsSoundId (f : Fold) (cs : Catalog) (c : ℕ) (key : List ℕ) (stored : Option StateDoc) (held : Look (List ℕ)) : Type 0 where

@@ -1,6 +1,6 @@
 // A hive, as a trait.
 ghost use Rattle.std.specs.Prelude.{◌≡◌, ◌≢◌, ℕ, List, [], IfOk, IsSome};
-ghost use Rattle.fold_core.specs.Docs.{Makes, index_name, look_up};
+ghost use Rattle.fold_core.specs.Docs.{MakesDocs, id_index_name, body_named};
 ghost use Rattle.pkg_meta.specs.Entries.{AreRising};
 ghost use Rattle.fold_core.specs.Entries.{Keeps};
 ghost use Rattle.fold_core.specs.Laws.{AreOfEntries, AreOwned, HaveOwnNames, IsWhole};
@@ -30,7 +30,7 @@ pub trait Hive {
     ghost keeps: { Keeps };
 
     /// Which documents it makes.
-    ghost makes: { Makes };
+    ghost makes: { MakesDocs };
 
     /// Whether the hive keeps a version with these details.
     fn keep(details: &Details) -> bool
@@ -60,7 +60,7 @@ pub trait Hive {
 
     /// Where there are entries there is an index.
     ghost indexed: { (base key : List ℕ) (number stamp : ℕ) (es : List Entry) → es ≢ []
-        → IsSome (look_up (index_name key) (makes base key number stamp es)) };
+        → IsSome (body_named (id_index_name key) (makes base key number stamp es)) };
 
     /// A publish's bytes are those of the publish at the origin of one of the entries.
     ghost staged: { (base key : List ℕ) (number stamp : ℕ) (es : List Entry)

@@ -6,7 +6,7 @@ ghost use Rattle.nuget_version.specs.declared.version.Version.{Version};
 ghost use Rattle.pkg_meta.specs.Catalog.{Catalog};
 ghost use Rattle.pkg_meta.specs.Lawful.{IsLawful, Placed, last_of};
 ghost use Rattle.pkg_meta.specs.declared.commit.Commit.{Commit};
-ghost use Rattle.fold_core.specs.Docs.{doc_at, owner};
+ghost use Rattle.fold_core.specs.Docs.{id_doc, owner};
 ghost use Rattle.pkg_meta.specs.Entries.{AreRising};
 ghost use Rattle.fold_core.specs.Entries.{Keeps, entries_of, entry_of, find_entry};
 ghost use Rattle.fold_core.specs.Items.{commits_of, items_in, items_of, last_placed, moment_in, number_in, touched, touched_at, touched_stamp};
@@ -75,9 +75,9 @@ pub fn origins_are_earlier()
 pub fn documents_follow_items<H: Hive>()
     ensures same { (base : List ℕ) (cs : Catalog) (key : List ℕ) (j k : ℕ) → IsLawful cs → j ≤ k
         → touched_at (commits_of cs) key k ≤ j → (name : List ℕ)
-        → doc_at H.keeps H.makes base (take j cs) key name ≡ doc_at H.keeps H.makes base (take k cs) key name }
+        → id_doc H.keeps H.makes base (take j cs) key name ≡ id_doc H.keeps H.makes base (take k cs) key name }
     ensures none { (base : List ℕ) (cs : Catalog) (key : List ℕ) → touched (commits_of cs) key ≡ 0
-        → (name : List ℕ) → doc_at H.keeps H.makes base cs key name ≡ None }
+        → (name : List ℕ) → id_doc H.keeps H.makes base cs key name ≡ None }
     ensures owned { (base : List ℕ) (cs : Catalog) (key : List ℕ) → IsWhole key → (name : List ℕ)
-        → IsSome (doc_at H.keeps H.makes base cs key name) → owner name ≡ Some key }
+        → IsSome (id_doc H.keeps H.makes base cs key name) → owner name ≡ Some key }
 {}

@@ -14,7 +14,7 @@ use Rattle.pkg_meta.specs.declared.commit.Commit.{Commit}
 use Rattle.pkg_meta.specs.declared.commit.Stored.{Stored}
 use Rattle.pkg_meta.specs.declared.entry.Entry.{Entry}
 use Rattle.pkg_meta.specs.declared.item.Item.{Item}
-use Rattle.fold_core.specs.Docs.{Makes, owner}
+use Rattle.fold_core.specs.Docs.{MakesDocs, owner}
 use Rattle.fold_core.specs.Entries.{Keeps}
 use Rattle.fold_core.specs.Folds.{Fold, fold_of, made_at, touched_by}
 use Rattle.fold_core.specs.Items.{commits_of, counted, is_of, touched}
@@ -51,7 +51,7 @@ item_whole cs key item = whole_or (list_all (λ (b : ℕ). not (b == 47)) key) r
     whole_or false is = absurd (let none : touched cs key ≡ 0 = untouched key is cs in omega arith)
 
 module _
-    (keeps : Keeps) (makes : Makes) (base : List ℕ)
+    (keeps : Keeps) (makes : MakesDocs) (base : List ℕ)
     (empty : (base key : List ℕ) (number stamp : ℕ) → makes base key number stamp [] ≡ [])
     (owned : (base key : List ℕ) (number stamp : ℕ) (es : List Entry) → IsWhole key → AreOwned key (makes base key number stamp es))
     (staged : (base key : List ℕ) (number stamp : ℕ) (es : List Entry) → AreOfEntries es (makes base key number stamp es))

@@ -5,7 +5,7 @@ use Rattle.pkg_meta.specs.Catalog.{Catalog}
 use Rattle.pkg_meta.specs.declared.commit.Commit.{Commit}
 use Rattle.pkg_meta.specs.declared.commit.Stored.{Stored}
 use Rattle.pkg_meta.specs.declared.state.StateDoc.{StateDoc}
-use Rattle.fold_core.specs.Docs.{doc_at, index_name}
+use Rattle.fold_core.specs.Docs.{id_doc, id_index_name}
 use Rattle.fold_core.specs.Entries.{entries_of}
 use Rattle.fold_core.specs.Folds.{Clean, Fold, HoldsAt, IsCleanState, Look, NamesAt, made_at, touched_by}
 use Rattle.fold_core.specs.Items.{commits_of, items_of, touched, touched_stamp}
@@ -27,7 +27,7 @@ module _ (f : Fold) (cs : Catalog) (x : Stored) where
 
   module _ (key : List ℕ) where
     doc_more : (k : ℕ) → k ≤ length cs → (name : List ℕ) → made_at f more key k name ≡ made_at f cs key k name
-    doc_more k le name = ap (λ (l : Catalog). doc_at f.keeps f.makes f.base l key name) (front_more k le)
+    doc_more k le name = ap (λ (l : Catalog). id_doc f.keeps f.makes f.base l key name) (front_more k le)
 
     touched_more : (k : ℕ) → k ≤ length cs → touched_by more key k ≡ touched_by cs key k
     touched_more k le = ap (λ (l : List Commit). touched l key) (commits_more k le)
@@ -95,7 +95,7 @@ module _ (f : Fold) (cs : Catalog) (x : Stored) where
         record {
           past = old.1.past;
           within = (let a : old.0 ≤ length cs = old.1.within in let b = longer in omega arith);
-          index = old.1.index ∙ sym (doc_more old.0 old.1.within (index_name key));
+          index = old.1.index ∙ sym (doc_more old.0 old.1.within (id_index_name key));
           all = λ name makes. old.1.all name (is_some_by _ _ (sym (doc_more old.0 old.1.within name)) makes);
         },
       );

@@ -4,7 +4,7 @@ use Rattle.std.proofs.lemmas.Bool.{cases_lt, false_from_ne_true}
 use Rattle.std.specs.Prelude.{Contains, IsSome}
 use Rattle.pkg_meta.specs.Catalog.{Catalog}
 use Rattle.pkg_meta.specs.declared.state.StateDoc.{StateDoc}
-use Rattle.fold_core.specs.Docs.{index_name, owner}
+use Rattle.fold_core.specs.Docs.{id_index_name, owner}
 use Rattle.fold_core.specs.Events.{IsChanged, IsCleanPut, IsDirtyPut, IsDocDelete, IsDocPut, names_in}
 use Rattle.fold_core.specs.Folds.{Clean, Fold, HoldsAt, Look, made_at, touched_by}
 use Rattle.fold_core.specs.Items.{commits_of}
@@ -115,7 +115,7 @@ module _ (f : Fold) (cs : Catalog) (laws : FoldLaws f cs) (key : List ℕ) where
         state = changed_state c s name (Some bytes) held new sound.state put.dirty put.named changed;
         fresh = changed_fresh c s name (Some bytes) held new (omega arith) sound.state.0.reached sound.fresh changed (sym put.made);
         linked = λ mine is. ⊎_elim
-            (λ (e : index_name key ≡ name). (
+            (λ (e : id_index_name key ≡ name). (
               s.at,
               record {
                 past = omega arith;
@@ -125,15 +125,15 @@ module _ (f : Fold) (cs : Catalog) (laws : FoldLaws f cs) (key : List ℕ) where
                     (λ o. is_some_by _ _ (changed.other q o ∙ put.index (sym e) q o makes) makes) (decide q name);
               },
             ))
-            (λ o. let old = sound.linked mine (is_some_by _ _ (sym (changed.other (index_name key) o)) is) in (
+            (λ o. let old = sound.linked mine (is_some_by _ _ (sym (changed.other (id_index_name key) o)) is) in (
               old.0,
               record {
                 past = old.1.past;
                 within = old.1.within;
-                index = changed.other (index_name key) o ∙ old.1.index;
+                index = changed.other (id_index_name key) o ∙ old.1.index;
                 all = λ q makes. still q (old.1.all q makes);
               },
-            )) (decide (index_name key) name);
+            )) (decide (id_index_name key) name);
       }
 
   pub delete_doc : (c : ℕ) (s : StateDoc) (name : List ℕ) (held new : Look (List ℕ)) → IsSoundId f cs c key (Some s) held
@@ -151,15 +151,15 @@ module _ (f : Fold) (cs : Catalog) (laws : FoldLaws f cs) (key : List ℕ) where
               record {
                 past = omega arith;
                 within = sound.state.0.reached;
-                index = changed.other (index_name key) (apart (index_name key) g.0) ∙ g.1 (index_name key) g.0;
+                index = changed.other (id_index_name key) (apart (id_index_name key) g.0) ∙ g.1 (id_index_name key) g.0;
                 all = λ q makes. is_some_by _ _ (changed.other q (apart q makes) ∙ g.1 q makes) makes;
               },
             ))
             (λ g. absurd (⊎_elim
-            (λ e. no_some (new (index_name key)) (subst (λ (x : List ℕ). new x ≡ None) e changed.here) is)
+            (λ e. no_some (new (id_index_name key)) (subst (λ (x : List ℕ). new x ≡ None) e changed.here) is)
             (λ gone. ⊎_elim
-            (λ e. no_some (new (index_name key)) (subst (λ (x : List ℕ). new x ≡ None) (sym e) changed.here) is)
-            (λ o. no_some (new (index_name key)) (changed.other (index_name key) o ∙ gone) is) (decide (index_name key) name)) g.1)) put.index;
+            (λ e. no_some (new (id_index_name key)) (subst (λ (x : List ℕ). new x ≡ None) (sym e) changed.here) is)
+            (λ o. no_some (new (id_index_name key)) (changed.other (id_index_name key) o ∙ gone) is) (decide (id_index_name key) name)) g.1)) put.index;
       }
 
   -- the cursor goes on to where the id is clean
@@ -185,7 +185,7 @@ module _ (f : Fold) (cs : Catalog) (laws : FoldLaws f cs) (key : List ℕ) where
       record {
         past = omega arith;
         within = reached;
-        index = clean.holds (index_name key) mine;
+        index = clean.holds (id_index_name key) mine;
         all = λ name makes. is_some_by _ _ (clean.holds name (laws.owned key k name makes)) makes;
       },
     );
@@ -272,12 +272,12 @@ module _ (f : Fold) (cs : Catalog) (laws : FoldLaws f cs) (key : List ℕ) where
     carry c stored sound = record {
       state = carry_state c stored sound.state;
       fresh = λ name own. let old = sound.fresh name own in (old.0, old.1, old.2, same name own ∙ old.3);
-      linked = λ mine is. let old = sound.linked mine (is_some_by _ _ (sym (same (index_name key) mine)) is) in (
+      linked = λ mine is. let old = sound.linked mine (is_some_by _ _ (sym (same (id_index_name key) mine)) is) in (
         old.0,
         record {
           past = old.1.past;
           within = old.1.within;
-          index = same (index_name key) mine ∙ old.1.index;
+          index = same (id_index_name key) mine ∙ old.1.index;
           all = λ name makes. is_some_by _ _ (same name (laws.owned key old.0 name makes)) (old.1.all name makes);
         },
       );

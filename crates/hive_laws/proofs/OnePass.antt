@@ -3,7 +3,7 @@ use Rattle.std.proofs.Common.{◌≡◌, inl, inr, ⊎_elim, ◌<◌, ◌≤◌,
 use Rattle.std.specs.Prelude.{Contains, IsSome}
 use Rattle.pkg_meta.specs.Catalog.{Catalog}
 use Rattle.pkg_meta.specs.declared.state.StateDoc.{StateDoc}
-use Rattle.fold_core.specs.Docs.{index_name, owner}
+use Rattle.fold_core.specs.Docs.{id_index_name, owner}
 use Rattle.fold_core.specs.Events.{HoldsAll, HoldsButFor, IsIndexDone, names_in}
 use Rattle.fold_core.specs.Folds.{Clean, Fold, HoldsAt, Look, NamesAt, made_at, touched_by}
 use Rattle.fold_core.specs.Items.{commits_of}
@@ -131,7 +131,7 @@ module _ (f : Fold) (cs : Catalog) (key : List ℕ) (s : StateDoc) (dirty : s.di
   made_then name = made_at f cs key s.at name
 
   puts_allowed : (docs : List NamedBytes) (held : Look (List ℕ)) → AreMade made_then docs → ((d : NamedBytes) → Contains docs d → Contains s.names d.name)
-      → ((d : NamedBytes) → Contains docs d → d.name ≡ index_name key → HoldsButFor f cs key s.at d.name held)
+      → ((d : NamedBytes) → Contains docs d → d.name ≡ id_index_name key → HoldsButFor f cs key s.at d.name held)
       → AreAllowed f cs key s.at (puts_of_docs docs) (kept_of (Some s) held)
   unfolding AreMade
   puts_allowed [] held right named guard = tt
@@ -153,7 +153,7 @@ module _ (f : Fold) (cs : Catalog) (key : List ℕ) (s : StateDoc) (dirty : s.di
         none.0,
         ⊎_elim (λ e. inl e) (λ gone. inr (⊎_elim
             (λ e. subst (λ (x : List ℕ). with_found name None held x ≡ None) (sym e) (with_found_here name None held))
-            (λ o. with_found_other name None held (index_name key) o ∙ gone) (decide (index_name key) name))) none.1,
+            (λ o. with_found_other name None held (id_index_name key) o ∙ gone) (decide (id_index_name key) name))) none.1,
       )) done
 
   removals_allowed : (names : List (List ℕ)) (held : Look (List ℕ)) → ((q : List ℕ) → Contains names q → Contains s.names q)
@@ -169,7 +169,7 @@ module _ (f : Fold) (cs : Catalog) (key : List ℕ) (s : StateDoc) (dirty : s.di
 -- the index among the documents that are put, and among the names that are removed
 index_docs : List ℕ → Option (List ℕ) → List NamedBytes
 index_docs key None = []
-index_docs key (Some bytes) = record { name = index_name key; bytes = bytes } ∷ []
+index_docs key (Some bytes) = record { name = id_index_name key; bytes = bytes } ∷ []
 
 index_puts : (key : List ℕ) (o : Option (List ℕ)) → puts_of_index key o ≡ puts_of_docs (index_docs key o)
 unfolding index_docs
@@ -178,34 +178,34 @@ index_puts key (Some bytes) = refl
 
 index_names : List ℕ → Bool → List (List ℕ)
 index_names key false = []
-index_names key true = index_name key ∷ []
+index_names key true = id_index_name key ∷ []
 
 index_removals : (key : List ℕ) (b : Bool) → removals_of_index key b ≡ map RemoveDoc (index_names key b)
 unfolding index_names
 index_removals key false = refl
 index_removals key true = refl
 
-index_doc : (key : List ℕ) (o : Option (List ℕ)) (d : NamedBytes) → Contains (index_docs key o) d → (d.name ≡ index_name key) × (o ≡ Some d.bytes)
+index_doc : (key : List ℕ) (o : Option (List ℕ)) (d : NamedBytes) → Contains (index_docs key o) d → (d.name ≡ id_index_name key) × (o ≡ Some d.bytes)
 unfolding index_docs
 index_doc key None d is = absurd (nothing_in d is)
 index_doc key (Some bytes) d is = ⊎_elim
     (λ e. (ap (λ (x : NamedBytes). x.name) e, ap (λ (x : NamedBytes). Some x.bytes) (sym e)))
-    (λ there. absurd (nothing_in d there)) (split (record { name = index_name key; bytes = bytes }) d [] is)
+    (λ there. absurd (nothing_in d there)) (split (record { name = id_index_name key; bytes = bytes }) d [] is)
 
-index_put : (key : List ℕ) (o : Option (List ℕ)) → IsSome o → Contains (names_of_docs (index_docs key o)) (index_name key)
+index_put : (key : List ℕ) (o : Option (List ℕ)) → IsSome o → Contains (names_of_docs (index_docs key o)) (id_index_name key)
 unfolding index_docs
 index_put key None is = absurd (no_some {A = List ℕ} None refl is)
-index_put key (Some bytes) is = first (index_name key) []
+index_put key (Some bytes) is = first (id_index_name key) []
 
-index_removed : (key : List ℕ) (b : Bool) → b ≡ true → Contains (index_names key b) (index_name key)
+index_removed : (key : List ℕ) (b : Bool) → b ≡ true → Contains (index_names key b) (id_index_name key)
 unfolding index_names
 index_removed key false is = cc
-index_removed key true is = first (index_name key) []
+index_removed key true is = first (id_index_name key) []
 
-is_index_removed : (key : List ℕ) (b : Bool) (q : List ℕ) → Contains (index_names key b) q → (q ≡ index_name key) × (b ≡ true)
+is_index_removed : (key : List ℕ) (b : Bool) (q : List ℕ) → Contains (index_names key b) q → (q ≡ id_index_name key) × (b ≡ true)
 unfolding index_names
 is_index_removed key false q is = absurd (nothing_in q is)
-is_index_removed key true q is = ⊎_elim (λ e. (e, refl)) (λ there. absurd (nothing_in q there)) (split (index_name key) q [] is)
+is_index_removed key true q is = ⊎_elim (λ e. (e, refl)) (λ there. absurd (nothing_in q there)) (split (id_index_name key) q [] is)
 
 -- the pass to the commit at which the dirty state stands
 module _ (f : Fold) (cs : Catalog) (laws : FoldLaws f cs) (c : ℕ) (key : List ℕ) (stored : Option StateDoc) (m0 : Look (List ℕ)) (p : PassPlan)
@@ -246,17 +246,17 @@ module _ (f : Fold) (cs : Catalog) (laws : FoldLaws f cs) (c : ℕ) (key : List 
   named_dropped q is = let at = is_index_removed key p.drops_index q is in
       subst (λ (x : List ℕ). Contains (names_in stored) x) (sym at.0) (plan.dropped at.1).0
 
-  others : HoldsButFor f cs key p.dirty.at (index_name key) m1
+  others : HoldsButFor f cs key p.dirty.at (id_index_name key) m1
   others q o makes = ⊎_elim (λ is. put_gives doc p.written m0 q made_written is) (λ held. put_keeps doc p.written m0 q made_written held) (plan.left q o makes)
 
-  the_index : IsSome (doc (index_name key)) → m2 (index_name key) ≡ doc (index_name key)
-  the_index makes = ⊎_elim (λ is. put_gives doc docs m1 (index_name key) made_index (index_put key p.index is))
-      (λ held. put_keeps doc docs m1 (index_name key) made_index (put_keeps doc p.written m0 (index_name key) made_written held)) (plan.index_left makes)
+  the_index : IsSome (doc (id_index_name key)) → m2 (id_index_name key) ≡ doc (id_index_name key)
+  the_index makes = ⊎_elim (λ is. put_gives doc docs m1 (id_index_name key) made_index (index_put key p.index is))
+      (λ held. put_keeps doc docs m1 (id_index_name key) made_index (put_keeps doc p.written m0 (id_index_name key) made_written held)) (plan.index_left makes)
 
   all2 : HoldsAll f cs key p.dirty.at m2
   all2 q makes = ⊎_elim
       (λ e. subst (λ (x : List ℕ). m2 x ≡ doc x) (sym e) (the_index (subst (λ (x : List ℕ). IsSome (doc x)) e makes)))
-      (λ o. put_keeps doc docs m1 q made_index (others q o makes)) (decide q (index_name key))
+      (λ o. put_keeps doc docs m1 q made_index (others q o makes)) (decide q (id_index_name key))
 
   all3 : HoldsAll f cs key p.dirty.at m3
   all3 q makes = leaves_others dropped m2 q (λ is. no_some (doc q) (unmade_dropped q is) makes) ∙ all2 q makes
@@ -272,21 +272,21 @@ module _ (f : Fold) (cs : Catalog) (laws : FoldLaws f cs) (c : ℕ) (key : List 
   was_named q own is = old_held f cs laws key c stored m0 sound.state q own is
 
   -- an index that isn't made is gone, where the id owns its name
-  no_index3 : (q : List ℕ) → owner q ≡ Some key → doc q ≡ None → q ≡ index_name key → m3 q ≡ None
+  no_index3 : (q : List ℕ) → owner q ≡ Some key → doc q ≡ None → q ≡ id_index_name key → m3 q ≡ None
   no_index3 q own none is_index = ⊎_elim (λ gone. absent3 q none gone)
-      (λ is. subst (λ (x : List ℕ). m3 x ≡ None) (sym is_index) (takes_away dropped m2 (index_name key) (index_removed key p.drops_index
+      (λ is. subst (λ (x : List ℕ). m3 x ≡ None) (sym is_index) (takes_away dropped m2 (id_index_name key) (index_removed key p.drops_index
       (plan.drops (subst (λ (x : List ℕ). Contains (names_in stored) x) is_index (was_named q own is)) (subst (λ (x : List ℕ). doc x ≡ None) is_index none)))))
       (none_or_some (m0 q))
 
   none4 : (q : List ℕ) → owner q ≡ Some key → doc q ≡ None → m4 q ≡ None
   none4 q own none = ⊎_elim (λ gone. stays_gone p.removed m3 q (absent3 q none gone))
       (λ is. ⊎_elim (λ e. stays_gone p.removed m3 q (no_index3 q own none e))
-      (λ o. takes_away p.removed m3 q (plan.removes q o (was_named q own is) none)) (decide q (index_name key))) (none_or_some (m0 q))
+      (λ o. takes_away p.removed m3 q (plan.removes q o (was_named q own is) none)) (decide q (id_index_name key))) (none_or_some (m0 q))
 
   held4 : HoldsAt f cs key p.dirty.at m4
   held4 q own = ⊎_elim (λ none. none4 q own none ∙ sym none) (λ makes. all4 q makes) (none_or_some (doc q))
 
-  module _ (mine : owner (index_name key) ≡ Some key) (clean_at : p.clean.at ≡ p.dirty.at) where
+  module _ (mine : owner (id_index_name key) ≡ Some key) (clean_at : p.clean.at ≡ p.dirty.at) where
     abbrev beside : Look (List ℕ) → KeptOfId
     beside held = kept_of (Some p.dirty) held
 
@@ -321,7 +321,7 @@ module _ (f : Fold) (cs : Catalog) (laws : FoldLaws f cs) (c : ℕ) (key : List 
 
     run_removed : AreAllowed f cs key p.dirty.at (map RemoveDoc p.removed) (beside m3)
     run_removed = removals_allowed f cs key p.dirty plan.dirty.dirty p.removed m3 (λ q is. plan.dirty.kept q (plan.removed q is).1) (λ q is. (plan.removed q is).2)
-        (λ q is. ⊎_elim (λ none. inr (none, inr (no_index3 (index_name key) mine none refl))) (λ makes. inl (makes, all3)) (none_or_some (doc (index_name key))))
+        (λ q is. ⊎_elim (λ none. inr (none, inr (no_index3 (id_index_name key) mine none refl))) (λ makes. inl (makes, all3)) (none_or_some (doc (id_index_name key))))
 
     run_clean : AreAllowed f cs key p.dirty.at from_clean (beside m4)
     run_clean = (
@@ -390,7 +390,7 @@ module _ (f : Fold) (cs : Catalog) (laws : FoldLaws f cs) (c k : ℕ) (key : Lis
   here : IsPassPlan f cs key p.dirty.at kept.stored kept.held p
   here = subst (λ (n : ℕ). IsPassPlan f cs key n kept.stored kept.held p) (sym plan.dirty_at) plan
 
-  mine : owner (index_name key) ≡ Some key
+  mine : owner (id_index_name key) ≡ Some key
   mine = owner_of key (codes "index.json") (item_whole (take k (commits_of cs)) key (omega arith))
 
   pub pass_allowed : AreAllowed f cs key k (pass_steps key p) kept

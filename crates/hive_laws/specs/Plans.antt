@@ -2,7 +2,7 @@
 use Rattle.std.specs.Prelude.{◌≡◌, ◌≢◌, ◌⊎◌, ◌<◌, ◌≤◌, ℕ, List, [], ◌∷◌, ◌++◌, length, map, Bool, true, false, Contains, Option, Some, None, IsSome}
 use Rattle.pkg_meta.specs.Catalog.{Catalog}
 use Rattle.pkg_meta.specs.declared.state.StateDoc.{StateDoc}
-use Rattle.fold_core.specs.Docs.{index_name}
+use Rattle.fold_core.specs.Docs.{id_index_name}
 use Rattle.fold_core.specs.Events.{IsDirtyPut, names_in}
 use Rattle.fold_core.specs.Folds.{Fold, Look, NamesAt, made_at, touched_by}
 use Rattle.fold_core.specs.Sound.{IsScratch, IsSoundId}
@@ -30,12 +30,12 @@ puts_of_docs docs = map (λ (d : NamedBytes). PutDoc d.name d.bytes) docs
 -- the put of the index, or none
 abbrev pub puts_of_index : List ℕ → Option (List ℕ) → List Step
 puts_of_index key None = []
-puts_of_index key (Some bytes) = PutDoc (index_name key) bytes ∷ []
+puts_of_index key (Some bytes) = PutDoc (id_index_name key) bytes ∷ []
 
 -- the removal of the index, or none
 abbrev pub removals_of_index : List ℕ → Bool → List Step
 removals_of_index key false = []
-removals_of_index key true = RemoveDoc (index_name key) ∷ []
+removals_of_index key true = RemoveDoc (id_index_name key) ∷ []
 
 -- the steps of a pass: dirty state, documents, index, removal of the index, other removals, clean state
 abbrev pub pass_steps : List ℕ → PassPlan → List Step
@@ -56,16 +56,16 @@ pub record IsPassPlan (f : Fold) (cs : Catalog) (key : List ℕ) (k : ℕ) (stor
   pub clean : plan.clean.dirty ≡ false
   pub scratch : IsScratch f cs key plan.clean
   pub names : NamesAt f cs key k plan.clean.names
-  pub written : (d : NamedBytes) → Contains plan.written d → (d.name ≢ index_name key) × (made_at f cs key k d.name ≡ Some d.bytes)
-  pub left : (name : List ℕ) → name ≢ index_name key → IsSome (made_at f cs key k name)
+  pub written : (d : NamedBytes) → Contains plan.written d → (d.name ≢ id_index_name key) × (made_at f cs key k d.name ≡ Some d.bytes)
+  pub left : (name : List ℕ) → name ≢ id_index_name key → IsSome (made_at f cs key k name)
       → Contains (names_of_docs plan.written) name ⊎ (held name ≡ made_at f cs key k name)
-  pub index : (bytes : List ℕ) → plan.index ≡ Some bytes → made_at f cs key k (index_name key) ≡ Some bytes
-  pub index_left : IsSome (made_at f cs key k (index_name key)) → IsSome plan.index ⊎ (held (index_name key) ≡ made_at f cs key k (index_name key))
-  pub dropped : plan.drops_index ≡ true → Contains (names_in stored) (index_name key) × (made_at f cs key k (index_name key) ≡ None)
-  pub drops : Contains (names_in stored) (index_name key) → made_at f cs key k (index_name key) ≡ None → plan.drops_index ≡ true
+  pub index : (bytes : List ℕ) → plan.index ≡ Some bytes → made_at f cs key k (id_index_name key) ≡ Some bytes
+  pub index_left : IsSome (made_at f cs key k (id_index_name key)) → IsSome plan.index ⊎ (held (id_index_name key) ≡ made_at f cs key k (id_index_name key))
+  pub dropped : plan.drops_index ≡ true → Contains (names_in stored) (id_index_name key) × (made_at f cs key k (id_index_name key) ≡ None)
+  pub drops : Contains (names_in stored) (id_index_name key) → made_at f cs key k (id_index_name key) ≡ None → plan.drops_index ≡ true
   pub removed : (name : List ℕ) → Contains plan.removed name
-      → (name ≢ index_name key) × Contains (names_in stored) name × (made_at f cs key k name ≡ None)
-  pub removes : (name : List ℕ) → name ≢ index_name key → Contains (names_in stored) name → made_at f cs key k name ≡ None
+      → (name ≢ id_index_name key) × Contains (names_in stored) name × (made_at f cs key k name ≡ None)
+  pub removes : (name : List ℕ) → name ≢ id_index_name key → Contains (names_in stored) name → made_at f cs key k name ≡ None
       → Contains plan.removed name
 
 -- an id is sound, it has an item behind the cursor and up to commit k, and this is a plan that leads it there

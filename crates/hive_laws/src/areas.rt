@@ -10,7 +10,7 @@ ghost use Rattle.pkg_meta.specs.declared.state.StateDoc.{StateDoc};
 ghost use Rattle.cursor_doc.specs.Cursor.{cursor_name, cursor_text};
 ghost use Rattle.cursor_doc.specs.Reading.{IsMarkValue};
 ghost use Rattle.cursor_doc.specs.declared.mark.Mark.{Mark};
-ghost use Rattle.fold_core.specs.Docs.{index_name, owner};
+ghost use Rattle.fold_core.specs.Docs.{id_index_name, owner};
 ghost use Rattle.fold_core.specs.Sound.{IsLinkedAt};
 ghost use Rattle.fold_core.specs.Folds.{Clean, Fold, Look, made_at};
 ghost use Rattle.hive_laws.specs.Areas.{IsHiveArea, IsHiveName, IsSoundArea, SettledArea, SoundArea, cursor_at};
@@ -67,8 +67,8 @@ pub fn rounds_settle_areas()
 pub fn areas_hold_prefixes()
     ensures fresh { (f : Fold) (cs : Catalog) (c : ℕ) (m : Area) (key name : List ℕ) → SoundArea f cs c m → owner name ≡ Some key
         → (j : ℕ) × (c ≤ j) × (j ≤ length cs) × (get m name ≡ made_at f cs key j name) }
-    ensures linked { (f : Fold) (cs : Catalog) (c : ℕ) (m : Area) (key : List ℕ) → SoundArea f cs c m → owner (index_name key) ≡ Some key
-        → IsSome (get m (index_name key)) → (j : ℕ) × IsLinkedAt f cs c j key (get m) }
+    ensures linked { (f : Fold) (cs : Catalog) (c : ℕ) (m : Area) (key : List ℕ) → SoundArea f cs c m → owner (id_index_name key) ≡ Some key
+        → IsSome (get m (id_index_name key)) → (j : ℕ) × IsLinkedAt f cs c j key (get m) }
     ensures exact { (f : Fold) (cs : Catalog) (k : ℕ) (m : Area) (key name : List ℕ) → SettledArea f cs k m → owner name ≡ Some key
         → get m name ≡ made_at f cs key k name }
     ensures only { (f : Fold) (cs : Catalog) (k : ℕ) (m : Area) (name : List ℕ) → SettledArea f cs k m → IsSome (get m name) → IsHiveName name }

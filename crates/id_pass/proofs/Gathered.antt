@@ -5,7 +5,7 @@ use Rattle.std.specs.FinMap.{keys}
 use Rattle.std.specs.List.{Contains}
 use Rattle.pkg_meta.specs.Lawful.{Placed}
 use Rattle.pkg_meta.specs.declared.state.StateDoc.{StateDoc}
-use Rattle.fold_core.specs.Docs.{Makes, index_name}
+use Rattle.fold_core.specs.Docs.{MakesDocs, id_index_name}
 use Rattle.fold_core.specs.Entries.{Keeps}
 use Rattle.fold_core.specs.Events.{names_in}
 use Rattle.fold_core.specs.Items.{last_placed}
@@ -23,7 +23,7 @@ same_names name ns {xs} {ys} {us} {vs} p q are =
     subst (λ (l : List (List ℕ)). Contains ns name ↔ (Contains l name ⊎ Contains vs name)) p
     (subst (λ (l : List (List ℕ)). Contains ns name ↔ (Contains xs name ⊎ Contains l name)) q are)
 
-module _ (keeps : Keeps) (makes : Makes) (base key : List ℕ) (old : Option StateDoc) (items : List Placed) (target : ℕ) (taken : Taken)
+module _ (keeps : Keeps) (makes : MakesDocs) (base key : List ℕ) (old : Option StateDoc) (items : List Placed) (target : ℕ) (taken : Taken)
     (touched : taken.touched ≡ number_after old (last_placed items)) (stamp : taken.touched_stamp ≡ stamp_after old (last_placed items))
     (entries : taken.entries ≡ all_applied keeps (entries_in old) items) where
   -- the documents of a state are those of what was taken in
@@ -33,7 +33,7 @@ module _ (keeps : Keeps) (makes : Makes) (base key : List ℕ) (old : Option Sta
   pub gathered : (dirty clean : StateDoc) (names : List (List ℕ)) (given docs : NamedBodies) (calls : List Call)
       → AreStatesOf taken target names (keys docs) dirty clean → names ≡ names_in old → given ≡ docs_given makes base key old
       → docs ≡ by_name (makes base key taken.touched taken.touched_stamp taken.entries)
-      → calls ≡ state_put key dirty ∷ (doc_puts (index_name key) given docs ++ (removals (index_name key) docs names ++ state_put key clean ∷ []))
+      → calls ≡ state_put key dirty ∷ (doc_puts (id_index_name key) given docs ++ (removals (id_index_name key) docs names ++ state_put key clean ∷ []))
       → ArePassCalls keeps makes base key old items target calls
   gathered dirty clean names given docs calls states named held made is =
       let all : docs ≡ docs_by makes base key clean = made ∙ same_docs clean states.clean_of in (
@@ -58,5 +58,5 @@ module _ (keeps : Keeps) (makes : Makes) (base key : List ℕ) (old : Option Sta
           new_names = states.new_names ∙ ap keys all;
           texts = states.texts;
         },
-        is ∙ (λ i. state_put key dirty ∷ (doc_puts (index_name key) (held i) (all i) ++ (removals (index_name key) (all i) (named i) ++ state_put key clean ∷ []))),
+        is ∙ (λ i. state_put key dirty ∷ (doc_puts (id_index_name key) (held i) (all i) ++ (removals (id_index_name key) (all i) (named i) ++ state_put key clean ∷ []))),
       )

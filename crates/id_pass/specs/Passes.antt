@@ -7,7 +7,7 @@ use Rattle.std.specs.Str.{bytes_eq}
 use Rattle.pkg_meta.specs.Lawful.{Placed}
 use Rattle.pkg_meta.specs.declared.entry.Entry.{Entry}
 use Rattle.pkg_meta.specs.declared.state.StateDoc.{StateDoc}
-use Rattle.fold_core.specs.Docs.{Makes, index_name}
+use Rattle.fold_core.specs.Docs.{MakesDocs, id_index_name}
 use Rattle.fold_core.specs.Entries.{Keeps}
 use Rattle.fold_core.specs.Events.{names_in}
 use Rattle.fold_core.specs.Items.{last_placed}
@@ -49,7 +49,7 @@ pub record IsTakenIn (keeps : Keeps) (old : Option StateDoc) (items : List Place
   pub stamp : s.touched_stamp ≡ stamp_after old (last_placed items)
   pub entries : s.entries ≡ all_applied keeps (entries_in old) items
 
-module _ (makes : Makes) (base key : List ℕ) where
+module _ (makes : MakesDocs) (base key : List ℕ) where
   -- the documents that a hive makes of a state
   abbrev pub docs_by : StateDoc → NamedBodies
   docs_by s = by_name (makes base key s.touched s.touched_stamp s.entries)
@@ -106,7 +106,7 @@ module _ (index : List ℕ) (docs : NamedBodies) where
 abbrev pub state_put : List ℕ → StateDoc → Call
 state_put key s = Put (state_name key) (Made (state_text s))
 
-module _ (keeps : Keeps) (makes : Makes) (base key : List ℕ) (old : Option StateDoc) (items : List Placed) (target : ℕ) where
+module _ (keeps : Keeps) (makes : MakesDocs) (base key : List ℕ) (old : Option StateDoc) (items : List Placed) (target : ℕ) where
   -- The two states of a pass: the dirty one with the old names and the new ones, the clean one with the new names, which are texts. A
   -- state's names are in byte order, without repeats.
   pub record HasStates (dirty clean : StateDoc) : Type 0 where
@@ -120,13 +120,13 @@ module _ (keeps : Keeps) (makes : Makes) (base key : List ℕ) (old : Option Sta
     pub texts : All IsUtf8 clean.names
 
 -- the calls of a pass with these states: the dirty state, the new documents, the removals, the clean state
-abbrev pub pass_calls : Makes → (base key : List ℕ) → Option StateDoc → (dirty clean : StateDoc) → List Call
+abbrev pub pass_calls : MakesDocs → (base key : List ℕ) → Option StateDoc → (dirty clean : StateDoc) → List Call
 pass_calls makes base key old dirty clean =
-    state_put key dirty ∷ (doc_puts (index_name key) (docs_given makes base key old) (docs_by makes base key clean)
-    ++ (removals (index_name key) (docs_by makes base key clean) (names_in old) ++ state_put key clean ∷ []))
+    state_put key dirty ∷ (doc_puts (id_index_name key) (docs_given makes base key old) (docs_by makes base key clean)
+    ++ (removals (id_index_name key) (docs_by makes base key clean) (names_in old) ++ state_put key clean ∷ []))
 
 -- calls that are those of a pass from this state, over these items, to the target
-abbrev pub ArePassCalls : Keeps → Makes → (base key : List ℕ) → Option StateDoc → List Placed → ℕ → List Call → Type 0
+abbrev pub ArePassCalls : Keeps → MakesDocs → (base key : List ℕ) → Option StateDoc → List Placed → ℕ → List Call → Type 0
 ArePassCalls keeps makes base key old items target calls =
     (dirty : StateDoc) × (clean : StateDoc) × HasStates keeps makes base key old items target dirty clean
     × (calls ≡ pass_calls makes base key old dirty clean)

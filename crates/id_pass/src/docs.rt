@@ -3,7 +3,7 @@ ghost use Rattle.std.specs.Prelude.{◌≡◌, ◌++◌, ◌∷◌, [], IfOk, On
 ghost use Rattle.std.specs.FinMap.{contains_key, entries, get, remove};
 ghost use Rattle.std.specs.List.{filter, list_any};
 ghost use Rattle.std.specs.Str.{bytes_eq};
-ghost use Rattle.fold_core.specs.Docs.{index_name};
+ghost use Rattle.fold_core.specs.Docs.{id_index_name};
 ghost use Rattle.id_pass.specs.Named.{bodies_of};
 ghost use Rattle.id_pass.specs.Passes.{doc_put, doc_puts, docs_by, docs_given, docs_unless_dirty, drops_index, index_removal, is_left_over, is_missing, removals};
 ghost use Rattle.id_pass.specs.declared.call.Call.TheVariants.{Put, Remove};
@@ -69,7 +69,7 @@ pub(crate) fn docs_given<H: Hive>(
 }
 
 pub(crate) fn index_name(alloc: Global, key: &str) -> Result<Text, NoMemory>
-    ensures { IfOk result (λ name. name ≡ index_name key.now) }
+    ensures { IfOk result (λ name. name ≡ id_index_name key.now) }
 {
     let name = format!(in alloc; "d/{key}/index.json")?;
     Ok(Text::of(name))

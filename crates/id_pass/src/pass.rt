@@ -3,7 +3,7 @@ ghost use Rattle.std.specs.Prelude.{◌≡◌, ◌++◌, ◌∷◌, [], false, t
 ghost use Rattle.std.specs.FinMap.{keys};
 ghost use Rattle.pkg_meta.specs.Entries.{AreRising};
 ghost use Rattle.pkg_meta.specs.declared.state.StateDoc.{StateDoc};
-ghost use Rattle.fold_core.specs.Docs.{index_name};
+ghost use Rattle.fold_core.specs.Docs.{id_index_name};
 ghost use Rattle.fold_core.specs.Events.{names_in};
 ghost use Rattle.id_pass.specs.Named.{bodies_of};
 ghost use Rattle.id_pass.specs.Passes.{ArePassCalls, doc_puts, is_idle, removals, state_put};
@@ -73,8 +73,8 @@ fn plan_of(
 ) -> Result<Plan, NoMemory>
     requires rising { AreRising taken.entries }
     ensures { IfOk result (λ plan. (dirty : StateDoc) × (clean : StateDoc) × AreStatesOf taken target old.now (keys (bodies_of docs)) dirty clean
-        × (plan ≡ state_put key.now dirty ∷ (doc_puts (index_name key.now) (bodies_of given.now) (bodies_of docs)
-        ++ (removals (index_name key.now) (bodies_of docs) old.now ++ state_put key.now clean ∷ [])))) }
+        × (plan ≡ state_put key.now dirty ∷ (doc_puts (id_index_name key.now) (bodies_of given.now) (bodies_of docs)
+        ++ (removals (id_index_name key.now) (bodies_of docs) old.now ++ state_put key.now clean ∷ [])))) }
 {
     let new = names_of(alloc, &docs)?;
     let all = all_names(alloc, old, new.as_slice())?;

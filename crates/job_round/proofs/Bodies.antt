@@ -9,7 +9,7 @@ use Rattle.pkg_meta.specs.declared.commit.Stored.{Stored}
 use Rattle.pkg_meta.specs.Lawful.{MayFollow, Placed}
 use Rattle.pkg_meta.specs.declared.item.Item.{Item}
 use Rattle.pkg_meta.specs.declared.item.Item.TheVariants as the
-use Rattle.fold_core.specs.Docs.{brought_at, brought_in, bytes_of, part}
+use Rattle.fold_core.specs.Docs.{brought_at, brought_in, body_bytes, part}
 use Rattle.fold_core.specs.declared.doc.Body.TheVariants.{Staged as FromPublish}
 
 -- the catalog has a publish at this number and place
@@ -31,7 +31,7 @@ pub record IsBrought (cs : Catalog) (number place : ℕ) (nuspec : Bool) : Type 
   pub within : Contains cs commit
   pub number_is : commit.commit.number ≡ number
   pub stands : slice_get commit.staged place ≡ Some (Some brought)
-  pub bytes : bytes_of cs (FromPublish number place nuspec) ≡ Some (part nuspec brought)
+  pub bytes : body_bytes cs (FromPublish number place nuspec) ≡ Some (part nuspec brought)
 
 -- the number of the commit at a place of a catalog
 number_from : (before cs : Catalog) (c : Stored) (k : ℕ) → MayFollow before cs → slice_get cs k ≡ Some c → c.commit.number ≡ length before + suc k
@@ -64,6 +64,6 @@ in_catalog cs n place nuspec None follows at some = none_some (IsBrought cs (suc
 in_catalog cs n place nuspec (Some c) follows at some = in_commit cs n place nuspec c (slice_get c.staged place) follows at refl some
 
 -- a publish's bytes, where the catalog has them
-pub brought_of : (cs : Catalog) (number place : ℕ) (nuspec : Bool) → MayFollow [] cs → IsSome (bytes_of cs (FromPublish number place nuspec)) → IsBrought cs number place nuspec
+pub brought_of : (cs : Catalog) (number place : ℕ) (nuspec : Bool) → MayFollow [] cs → IsSome (body_bytes cs (FromPublish number place nuspec)) → IsBrought cs number place nuspec
 brought_of cs zero place nuspec follows some = none_some (IsBrought cs zero place nuspec) some
 brought_of cs (suc n) place nuspec follows some = in_catalog cs n place nuspec (slice_get cs n) follows refl some

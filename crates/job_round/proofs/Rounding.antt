@@ -19,7 +19,7 @@ use Rattle.catalog_rows.specs.Kept.{Kept}
 use Rattle.catalog_core.specs.Framing.{StaysOpen}
 use Rattle.catalog_core.specs.Opened.{IsOpenFor, IsUnsettled, Opened}
 use Rattle.cursor_doc.specs.Cursor.{cursor_name}
-use Rattle.fold_core.specs.Docs.{Makes as MakesDocs}
+use Rattle.fold_core.specs.Docs.{MakesDocs}
 use Rattle.fold_core.specs.Entries.{Keeps}
 use Rattle.fold_core.specs.Folds.{Fold, fold_of}
 use Rattle.id_pass.specs.declared.error.RoundOut.{RoundOut}

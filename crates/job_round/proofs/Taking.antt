@@ -17,7 +17,7 @@ use Rattle.catalog_core.specs.Framing.{StaysOpen}
 use Rattle.catalog_core.specs.Opened.{IsOpenFor, Opened}
 use Rattle.catalog_rows.specs.Kept.{Kept}
 use Rattle.catalog_rows.specs.Last.{placed_row}
-use Rattle.fold_core.specs.Docs.{Makes as MakesDocs}
+use Rattle.fold_core.specs.Docs.{MakesDocs}
 use Rattle.fold_core.specs.Entries.{Keeps}
 use Rattle.fold_core.specs.Folds.{Fold, fold_of}
 use Rattle.fold_core.specs.Items.{is_of}

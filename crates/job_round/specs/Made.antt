@@ -7,7 +7,7 @@ use Rattle.blob_store.specs.Seen.{Seen}
 use Rattle.blob_store.specs.declared.call.Call.{Call as StoreCall}
 use Rattle.blob_store.specs.declared.call.Call.TheVariants as store
 use Rattle.pkg_meta.specs.Catalog.{Catalog}
-use Rattle.fold_core.specs.Docs.{bytes_of}
+use Rattle.fold_core.specs.Docs.{body_bytes}
 use Rattle.fold_core.specs.declared.doc.Body.{Body}
 use Rattle.fold_core.specs.declared.doc.Body.TheVariants.{Made, Staged as FromPublish}
 use Rattle.id_pass.specs.declared.call.Call.{Call}
@@ -17,7 +17,7 @@ use Rattle.job_round.specs.declared.stop.Stop.{Stop}
 
 -- the bytes are the body's in each catalog that may be meant and has it
 abbrev pub IsBody : (Catalog → Type 0) → Body → List ℕ → Type 0
-IsBody Q body bytes = (cs : Catalog) → Q cs → (own : List ℕ) → bytes_of cs body ≡ Some own → bytes ≡ own
+IsBody Q body bytes = (cs : Catalog) → Q cs → (own : List ℕ) → body_bytes cs body ≡ Some own → bytes ≡ own
 
 -- a call as it is made
 abbrev pub IsMadeCall : (Catalog → Type 0) → Call → StoreCall → Type 0

@@ -101,7 +101,7 @@ mutual
       ∙ ap Some (joined_one done k d ms)
 
 mutual
-  depth-outline : (d : Data) → tree.depth (outline d) ≡ depth d
+  pub depth-outline : (d : Data) → tree.depth (outline d) ≡ depth d
   depth-outline null = refl
   depth-outline (boolean b) = refl
   depth-outline (number n) = refl
@@ -118,7 +118,7 @@ mutual
   members_depth-outline (member k d ms) = ap₂ max (depth-outline d) (members_depth-outline ms)
 
 mutual
-  numbers-outline : (d : Data) → Fits d → tree.HasNumbers (outline d)
+  pub numbers-outline : (d : Data) → Fits d → tree.HasNumbers (outline d)
   numbers-outline null fits = tt
   numbers-outline (boolean b) fits = tt
   numbers-outline (number (unsigned n)) fits = IsNumber-decimal n fits

@@ -6,7 +6,7 @@ use Rattle.std.proofs.lemmas.Bool.Decides.{nat_tests}
 use Rattle.std.proofs.lemmas.List.Folds.{list_all-map}
 use Rattle.std.proofs.lemmas.Str.Ascii.{IsAscii-nil, IsAscii-cons, lowercase-lowercase}
 use Rattle.std.proofs.lemmas.Str.{IsUtf8-from_ascii}
-use Rattle.package_id.specs.Ids.{is_word_byte, is_joint, is_id, IsId, id_key, is_key_byte, is_bare_byte, IsSegment}
+use Rattle.package_id.specs.Ids.{is_word_byte, is_joint, is_id, IsId, id_key, is_id_key_byte, is_bare_byte, IsSegment}
 use Rattle.package_id.proofs.Walk.{goes_on, is_id-goes_on}
 use Rattle.package_id.proofs.Fronts.{differ}
 
@@ -41,24 +41,24 @@ list_all-id text id = walked text false (sym (is_id-goes_on text) ∙ id)
 bare : (b : ℕ) → is_id_byte b ≡ true → is_bare_byte b ≡ true
 bare b held = grind (arith, nat_tests)
 
-key_byte : (b : ℕ) → is_id_byte b ≡ true → is_key_byte (to_ascii_lowercase b) ≡ true
+key_byte : (b : ℕ) → is_id_byte b ≡ true → is_id_key_byte (to_ascii_lowercase b) ≡ true
 key_byte b held = grind (arith, nat_tests)
 
-no_slash : (b : ℕ) → is_key_byte b ≡ true → not (b == 47) ≡ true
+no_slash : (b : ℕ) → is_id_key_byte b ≡ true → not (b == 47) ≡ true
 no_slash b held = grind (arith, nat_tests)
 
-key_bare : (b : ℕ) → is_key_byte b ≡ true → is_bare_byte b ≡ true
+key_bare : (b : ℕ) → is_id_key_byte b ≡ true → is_bare_byte b ≡ true
 key_bare b held = grind (arith, nat_tests)
 
 pub list_all-bare : (text : List ℕ) → IsId text → list_all is_bare_byte text ≡ true
 list_all-bare text id = list_all_weaker is_id_byte is_bare_byte bare text (list_all-id text id)
 
-pub list_all-key : (text : List ℕ) → IsId text → list_all is_key_byte (id_key text) ≡ true
+pub list_all-key : (text : List ℕ) → IsId text → list_all is_id_key_byte (id_key text) ≡ true
 list_all-key text id =
-    list_all-map is_key_byte to_ascii_lowercase text ∙ list_all_weaker is_id_byte (λ b. is_key_byte (to_ascii_lowercase b)) key_byte text (list_all-id text id)
+    list_all-map is_id_key_byte to_ascii_lowercase text ∙ list_all_weaker is_id_byte (λ b. is_id_key_byte (to_ascii_lowercase b)) key_byte text (list_all-id text id)
 
 pub list_all-key_bare : (text : List ℕ) → IsId text → list_all is_bare_byte (id_key text) ≡ true
-list_all-key_bare text id = list_all_weaker is_key_byte is_bare_byte key_bare (id_key text) (list_all-key text id)
+list_all-key_bare text id = list_all_weaker is_id_key_byte is_bare_byte key_bare (id_key text) (list_all-key text id)
 
 -- an id isn't empty
 pub id_filled : (text : List ℕ) → IsId text → id_key text ≢ []
@@ -68,7 +68,7 @@ id_filled (b ∷ bs) id same = cc
 pub IsSegment-key : (text : List ℕ) → IsId text → IsSegment (id_key text)
 IsSegment-key text id = record {
   filled = id_filled text id;
-  whole = list_all_weaker is_key_byte (λ b. not (b == 47)) no_slash (id_key text) (list_all-key text id);
+  whole = list_all_weaker is_id_key_byte (λ b. not (b == 47)) no_slash (id_key text) (list_all-key text id);
 }
 
 word-lowercase : (b : ℕ) → is_word_byte (to_ascii_lowercase b) ≡ is_word_byte b

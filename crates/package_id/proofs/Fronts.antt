@@ -2,7 +2,7 @@
 use Rattle.std.proofs.Common.{◌≡◌, ◌<◌, ◌≤◌, ◌+◌, ◌-◌, ℕ, suc, List, [], ◌∷◌, ◌++◌, length, take, drop, get_or, Bool, true, false, ◌&&◌, sym, ◌∙◌, ap, subst, arith, append_assoc, take-append-drop, append-nil}
 use Rattle.std.proofs.Math.Seq.{take-add}
 use Rattle.std.proofs.lemmas.List.{drop_more, take_all}
-use Rattle.package_id.specs.Ids.{is_word_byte, is_joint, is_id, IsId, BeginsId, IsLongestFront}
+use Rattle.package_id.specs.Ids.{is_word_byte, is_joint, is_id, IsId, BeginsId, IsLongestIdFront}
 use Rattle.package_id.proofs.Walk.{goes_on, is_id-goes_on}
 
 -- what is left of an id behind this prefix
@@ -34,7 +34,7 @@ module _ (text : List ℕ) (at : ℕ) (within : Bool) (b : ℕ) (lt : at < lengt
   longer : (n : ℕ) (m : ℕ) → n ≡ at + suc m → take n text ≡ take at text ++ b ∷ take m (drop (at + 1) text)
   longer n m same = ap (λ (k : ℕ). take k text) same ∙ take-add at (suc m) text ∙ ap (λ (l : List ℕ). take at text ++ take (suc m) l) rest_is
 
-  pub bad_place : IsLongestFront text at
+  pub bad_place : IsLongestIdFront text at
   bad_place = record {
     within = omega arith;
     begins = leads_begins (take at text) within so_far;
@@ -49,7 +49,7 @@ module _ (text : List ℕ) (at : ℕ) (within : Bool) (b : ℕ) (lt : at < lengt
   }
 
 -- a text that was read to its end
-pub end_place : (text : List ℕ) (at : ℕ) (within : Bool) → length text ≤ at → LeadsTo (take at text) within → IsLongestFront text (length text)
+pub end_place : (text : List ℕ) (at : ℕ) (within : Bool) → length text ≤ at → LeadsTo (take at text) within → IsLongestIdFront text (length text)
 end_place text at within le so_far = record {
   within = omega arith;
   begins = subst BeginsId (take_all at text le ∙ sym (take_all (length text) text (omega arith))) (leads_begins (take at text) within so_far);

@@ -2,11 +2,11 @@
 use Rattle.std.proofs.Common.{◌≡◌, ◌<◌, ℕ, List, [], length, refl, sym, ◌∙◌, ap, subst, arith}
 use Rattle.package_id.specs.declared.error.IdErr.{IdErr}
 use Rattle.package_id.specs.declared.error.IdErr.TheVariants.{Empty, TooLong, BadByte, Memory}
-use Rattle.package_id.specs.Ids.{IsId, IsLongestFront}
+use Rattle.package_id.specs.Ids.{IsId, IsLongestIdFront}
 use Rattle.package_id.specs.Refusals.{IsRefusedFor}
 
 -- a text has one longest prefix
-pub same_front : (text : List ℕ) (m n : ℕ) → IsLongestFront text m → IsLongestFront text n → m ≡ n
+pub same_front : (text : List ℕ) (m n : ℕ) → IsLongestIdFront text m → IsLongestIdFront text n → m ≡ n
 same_front text m n one other =
     let not_below : ¬ (m < n) = λ below. one.longest n below other.within other.begins in
     let not_above : ¬ (n < m) = λ above. other.longest m above one.within one.begins in

@@ -12,24 +12,24 @@ is_word_byte b = is_ascii_alphanumeric b || (b == 95)
 abbrev pub is_joint : ℕ → Bool
 is_joint b = (b == 46) || (b == 45)
 
--- the parts with a byte more at the start of the first
+-- the id_parts with a byte more at the start of the first
 abbrev pub starting_with : ℕ → List (List ℕ) → List (List ℕ)
 starting_with b [] = (b ∷ []) ∷ []
 starting_with b (part ∷ others) = (b ∷ part) ∷ others
 
 -- what stands before, between and behind the joints: one part more than there are joints
-abbrev pub parts : List ℕ → List (List ℕ)
-parts [] = [] ∷ []
-parts (b ∷ bs) = if is_joint b then [] ∷ parts bs else starting_with b (parts bs)
+abbrev pub id_parts : List ℕ → List (List ℕ)
+id_parts [] = [] ∷ []
+id_parts (b ∷ bs) = if is_joint b then [] ∷ id_parts bs else starting_with b (id_parts bs)
 
 -- one word byte or more, and nothing else
-abbrev pub is_part : List ℕ → Bool
-is_part [] = false
-is_part (b ∷ bs) = list_all is_word_byte (b ∷ bs)
+abbrev pub is_id_part : List ℕ → Bool
+is_id_part [] = false
+is_id_part (b ∷ bs) = list_all is_word_byte (b ∷ bs)
 
 -- each part is one
 abbrev pub is_id : List ℕ → Bool
-is_id text = list_all is_part (parts text)
+is_id text = list_all is_id_part (id_parts text)
 
 -- an id, of any length
 abbrev pub IsId : List ℕ → Type 0
@@ -48,14 +48,14 @@ abbrev pub BeginsId : List ℕ → Type 0
 BeginsId text = (rest : List ℕ) × IsId (text ++ rest)
 
 -- the longest prefix of the text that some id begins with has this length
-pub record IsLongestFront (text : List ℕ) (at : ℕ) : Type 0 where
+pub record IsLongestIdFront (text : List ℕ) (at : ℕ) : Type 0 where
   pub within : at ≤ length text
   pub begins : BeginsId (take at text)
   pub longest : (n : ℕ) → at < n → n ≤ length text → ¬ BeginsId (take n text)
 
 -- a byte of a key: a small ASCII letter, an ASCII digit, `_`, `.` or `-`
-abbrev pub is_key_byte : ℕ → Bool
-is_key_byte b = is_in_range 97 122 b || (is_in_range 48 57 b || ((b == 95) || is_joint b))
+abbrev pub is_id_key_byte : ℕ → Bool
+is_id_key_byte b = is_in_range 97 122 b || (is_in_range 48 57 b || ((b == 95) || is_joint b))
 
 -- an ASCII byte that JSON writes as it is: no control character, no `"` and no `\`
 abbrev pub is_bare_byte : ℕ → Bool

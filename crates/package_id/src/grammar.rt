@@ -1,6 +1,6 @@
 // Reading a text by the grammar of ids.
 ghost use Rattle.std.specs.Prelude.{◌≡◌, OnOk, OnErr, IfErr, ◌&&◌};
-ghost use Rattle.package_id.specs.Ids.{is_word_byte, is_joint, IsId, IsLongestFront};
+ghost use Rattle.package_id.specs.Ids.{is_word_byte, is_joint, is_id, IsId, IsLongestIdFront};
 
 fn is_word(byte: u8) -> bool
     ensures { result ≡ is_word_byte byte }
@@ -18,7 +18,7 @@ fn ends_part(in_part: bool, byte: u8) -> bool
 pub fn check(text: &[u8]) -> Result<(), usize>
     ensures ok { OnOk result (IsId text.now) }
     ensures refused { OnErr result (¬ IsId text.now) }
-    ensures place { IfErr result (IsLongestFront text.now) }
+    ensures place { IfErr result (IsLongestIdFront text.now) }
 {
     let mut in_part = false;
     for (at, byte) in text.iter().enumerate() {
@@ -31,4 +31,11 @@ pub fn check(text: &[u8]) -> Result<(), usize>
         }
     }
     if in_part { Ok(()) } else { Err(text.len()) }
+}
+
+/// Whether the text is an id, of any length.
+pub fn is_id(text: &str) -> bool
+    ensures { result ≡ is_id text.now }
+{
+    check(text.as_bytes()).is_ok()
 }

@@ -7,5 +7,6 @@ mod id;
 mod laws;
 
 pub use error::IdErr;
+pub use grammar::is_id;
 pub use id::{MAX_ID_LEN, PackageId};
 pub use laws::{key_laws, reasons_exclude};

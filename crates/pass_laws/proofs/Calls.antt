@@ -9,7 +9,7 @@ use Rattle.blob_store.specs.declared.call.Call.{Call as StoreCall}
 use Rattle.blob_store.specs.declared.call.Call.TheVariants as store
 use Rattle.pkg_meta.specs.Catalog.{Catalog}
 use Rattle.pkg_meta.specs.declared.state.StateDoc.{StateDoc}
-use Rattle.fold_core.specs.Docs.{bytes_of, index_name}
+use Rattle.fold_core.specs.Docs.{body_bytes, id_index_name}
 use Rattle.fold_core.specs.declared.doc.Body.{Body}
 use Rattle.hive_laws.specs.Plans.{PassPlan, puts_of_docs, puts_of_index, removals_of_index}
 use Rattle.hive_laws.specs.Rounds.{call_of, plan_calls}
@@ -25,11 +25,11 @@ use Rattle.pass_laws.proofs.Plan.{bytes_or, index_bytes, or_same, plan_of, with_
 
 -- a call with its bytes
 abbrev made_call : Catalog → Call → StoreCall
-made_call cs (Put name body) = store.Put name (bytes_or (bytes_of cs body))
+made_call cs (Put name body) = store.Put name (bytes_or (body_bytes cs body))
 made_call cs (Remove name) = store.Remove name
 
 one_made : (cs : Catalog) (call : Call) (made : StoreCall) → HasCallBytes cs call → IsMadeBy cs call made → made ≡ made_call cs call
-one_made cs (Put name body) made has is = is (bytes_or (bytes_of cs body)) (or_same (bytes_of cs body) has)
+one_made cs (Put name body) made has is = is (bytes_or (body_bytes cs body)) (or_same (body_bytes cs body) has)
 one_made cs (Remove name) made has is = is
 
 -- calls that have bytes are made in one way
@@ -66,7 +66,7 @@ have_joined : (cs : Catalog) (xs ys : List Call) → HaveCallBytes cs xs → Hav
 have_joined cs [] ys p q = q
 have_joined cs (x ∷ xs) ys p q = (p.0, have_joined cs xs ys p.1 q)
 
-puts_have : (cs : Catalog) (es : List (List ℕ × Body)) → ((e : List ℕ × Body) → Contains es e → IsSome (bytes_of cs e.1)) → HaveCallBytes cs (map doc_put es)
+puts_have : (cs : Catalog) (es : List (List ℕ × Body)) → ((e : List ℕ × Body) → Contains es e → IsSome (body_bytes cs e.1)) → HaveCallBytes cs (map doc_put es)
 puts_have cs [] all = tt
 puts_have cs (e ∷ es) all = (all e (first e es), puts_have cs es (λ x is. all x (later e x es is)))
 
@@ -78,23 +78,23 @@ drop_has : (cs : Catalog) (index : List ℕ) (b : Bool) → HaveCallBytes cs (co
 drop_has cs index true = (tt, tt)
 drop_has cs index false = tt
 
-if_put : (cs : Catalog) (index : List ℕ) (body : Body) (b : Bool) → IsSome (bytes_of cs body) → HaveCallBytes cs (map doc_put (cond b ((index, body) ∷ []) []))
+if_put : (cs : Catalog) (index : List ℕ) (body : Body) (b : Bool) → IsSome (body_bytes cs body) → HaveCallBytes cs (map doc_put (cond b ((index, body) ∷ []) []))
 if_put cs index body true has = (has, tt)
 if_put cs index body false has = tt
 
-index_has : (cs : Catalog) (index : List ℕ) (given : NamedBodies) (docs : NamedBodies) (o : Option Body) → ((body : Body) → o ≡ Some body → IsSome (bytes_of cs body))
+index_has : (cs : Catalog) (index : List ℕ) (given : NamedBodies) (docs : NamedBodies) (o : Option Body) → ((body : Body) → o ≡ Some body → IsSome (body_bytes cs body))
     → HaveCallBytes cs (index_put index given docs o)
 index_has cs index given docs None all = tt
 index_has cs index given docs (Some body) all = if_put cs index body (is_missing given (index, body)) (all body refl)
 
 module _ (cs : Catalog) (key : List ℕ) (given docs : NamedBodies) (names : List (List ℕ)) (dirty clean : StateDoc) where
   abbrev index : List ℕ
-  index = index_name key
+  index = id_index_name key
 
   abbrev calls : List Call
   calls = state_put key dirty ∷ (doc_puts index given docs ++ (removals index docs names ++ state_put key clean ∷ []))
 
-  pub calls_have : ((e : List ℕ × Body) → Contains (written index given docs) e → IsSome (bytes_of cs e.1)) → ((body : Body) → get docs index ≡ Some body → IsSome (bytes_of cs body))
+  pub calls_have : ((e : List ℕ × Body) → Contains (written index given docs) e → IsSome (body_bytes cs e.1)) → ((body : Body) → get docs index ≡ Some body → IsSome (body_bytes cs body))
       → HaveCallBytes cs calls
   calls_have docs_have own = (
     refl,
@@ -112,13 +112,13 @@ module _ (cs : Catalog) (key : List ℕ) (given docs : NamedBodies) (names : Lis
 
   puts_made : (es : List (List ℕ × Body)) → map (made_call cs) (map doc_put es) ≡ map (call_of key) (puts_of_docs (map (with_bytes cs) es))
   puts_made [] = refl
-  puts_made (e ∷ es) = ap (λ (l : List StoreCall). store.Put e.0 (bytes_or (bytes_of cs e.1)) ∷ l) (puts_made es)
+  puts_made (e ∷ es) = ap (λ (l : List StoreCall). store.Put e.0 (bytes_or (body_bytes cs e.1)) ∷ l) (puts_made es)
 
   removals_made : (ns : List (List ℕ)) → map (made_call cs) (map {A = List ℕ} {B = Call} (λ (n : List ℕ). Remove n) ns) ≡ map (call_of key) (map {A = List ℕ} {B = Step} (λ (n : List ℕ). RemoveDoc n) ns)
   removals_made [] = refl
   removals_made (n ∷ ns) = ap (λ (l : List StoreCall). store.Remove n ∷ l) (removals_made ns)
 
-  index_made_if : (body : Body) (b : Bool) → map (made_call cs) (map doc_put (cond b ((index, body) ∷ []) [])) ≡ map (call_of key) (puts_of_index key (cond b (Some (bytes_or (bytes_of cs body))) None))
+  index_made_if : (body : Body) (b : Bool) → map (made_call cs) (map doc_put (cond b ((index, body) ∷ []) [])) ≡ map (call_of key) (puts_of_index key (cond b (Some (bytes_or (body_bytes cs body))) None))
   index_made_if body true = refl
   index_made_if body false = refl
 

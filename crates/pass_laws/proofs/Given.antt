@@ -10,7 +10,7 @@ use Rattle.pkg_meta.specs.Catalog.{Catalog}
 use Rattle.pkg_meta.specs.Lawful.{IsLawful}
 use Rattle.pkg_meta.specs.declared.entry.Entry.{Entry}
 use Rattle.pkg_meta.specs.declared.state.StateDoc.{StateDoc}
-use Rattle.fold_core.specs.Docs.{Makes, bytes_of, owner}
+use Rattle.fold_core.specs.Docs.{MakesDocs, body_bytes, owner}
 use Rattle.fold_core.specs.Entries.{Keeps}
 use Rattle.fold_core.specs.Folds.{Fold, Look, fold_of}
 use Rattle.fold_core.specs.Laws.{AreOfEntries}
@@ -57,16 +57,16 @@ has_is docs name body is = document_is (get docs name) body is
 none_in_empty : (name : List ℕ) (body : Body) → get (empty {X = Body} {R = slice_cmp nat_cmp}) name ≡ Some body → ⊥
 none_in_empty name body is = let none : get (empty {X = Body} {R = slice_cmp nat_cmp}) name ≡ None = get-empty {X = Body} (slice_cmp nat_cmp) name in cc
 
-module _ (keeps : Keeps) (makes : Makes) (base key : List ℕ) (staged : (number stamp : ℕ) (es : List Entry) → AreOfEntries es (makes base key number stamp es))
+module _ (keeps : Keeps) (makes : MakesDocs) (base key : List ℕ) (staged : (number stamp : ℕ) (es : List Entry) → AreOfEntries es (makes base key number stamp es))
     (cs : Catalog) (lawful : IsLawful cs) (c : ℕ) (held : Look (List ℕ)) where
   abbrev f : Fold
   f = fold_of keeps makes base
 
   pub given_held : (old : Option StateDoc) → HasState f cs c key old held → (name : List ℕ) (body : Body) → get (docs_given makes base key old) name ≡ Some body
-      → owner name ≡ Some key → held name ≡ bytes_of cs body
+      → owner name ≡ Some key → held name ≡ body_bytes cs body
   given_held None state name body is owned = absurd (none_in_empty name body is)
   given_held (Some s) state name body is owned =
-      elim s.dirty as (λ (b : Bool). s.dirty ≡ b → get (cond b empty (docs_by makes base key s)) name ≡ Some body → held name ≡ bytes_of cs body) [
+      elim s.dirty as (λ (b : Bool). s.dirty ≡ b → get (cond b empty (docs_by makes base key s)) name ≡ Some body → held name ≡ body_bytes cs body) [
         | true ↦ λ dirty here. absurd (none_in_empty name body here)
         | false ↦ λ clean here. (state.1.exact clean).0 name owned ∙ made_of keeps makes base key staged cs lawful s state.0.scratch name body here
       ] refl is

@@ -11,7 +11,7 @@ use Rattle.pkg_meta.specs.Lawful.{IsLawful, Placed}
 use Rattle.pkg_meta.specs.declared.commit.Commit.{Commit}
 use Rattle.pkg_meta.specs.declared.entry.Entry.{Entry}
 use Rattle.pkg_meta.specs.declared.state.StateDoc.{StateDoc}
-use Rattle.fold_core.specs.Docs.{Makes, bytes_of, index_name}
+use Rattle.fold_core.specs.Docs.{MakesDocs, body_bytes, id_index_name}
 use Rattle.fold_core.specs.Entries.{Keeps}
 use Rattle.fold_core.specs.Events.{names_in}
 use Rattle.fold_core.specs.Folds.{Fold, fold_of, touched_by}
@@ -53,7 +53,7 @@ idle_clean : (s : StateDoc) (items : List Placed) → is_idle (Some s) items ≡
 idle_clean s [] is = not_true s.dirty is
 idle_clean s (x ∷ items) is = absurd (let no : ⊥ = cc in no)
 
-module _ (keeps : Keeps) (makes : Makes) (base : List ℕ) (staged : (base key : List ℕ) (number stamp : ℕ) (es : List Entry) → AreOfEntries es (makes base key number stamp es))
+module _ (keeps : Keeps) (makes : MakesDocs) (base : List ℕ) (staged : (base key : List ℕ) (number stamp : ℕ) (es : List Entry) → AreOfEntries es (makes base key number stamp es))
     (cs : Catalog) (c : ℕ) (key : List ℕ) (old : Option StateDoc) (m : Area) (laws : FoldLaws (fold_of keeps makes base) cs)
     (starts : StartsPassOf (fold_of keeps makes base) cs c key old m) where
   abbrev f : Fold
@@ -87,15 +87,15 @@ module _ (keeps : Keeps) (makes : Makes) (base : List ℕ) (staged : (base key :
     leads : IsPassPlan f cs key k old (get m) plan
     leads = is_plan keeps makes base key (staged base key) cs lawful laws c (get m) old starts.sound.state items dirty clean states dirty_scratch clean_scratch
 
-    found_has : (name : List ℕ) (body : Body) → get (docs_by makes base key clean) name ≡ Some body → IsSome (bytes_of cs body)
+    found_has : (name : List ℕ) (body : Body) → get (docs_by makes base key clean) name ≡ Some body → IsSome (body_bytes cs body)
     found_has = has_bytes keeps makes base key (staged base key) cs lawful laws c (get m) old starts.sound.state items dirty clean states dirty_scratch clean_scratch
 
-    written_has : (e : List ℕ × Body) → Contains (written (index_name key) (docs_given makes base key old) (docs_by makes base key clean)) e → IsSome (bytes_of cs e.1)
+    written_has : (e : List ℕ × Body) → Contains (written (id_index_name key) (docs_given makes base key old) (docs_by makes base key clean)) e → IsSome (body_bytes cs e.1)
     written_has e is =
         found_has e.0 e.1 (is_written keeps makes base key (staged base key) cs lawful laws c (get m) old starts.sound.state items dirty clean states dirty_scratch clean_scratch e is).1
 
     have : HaveCallBytes cs (pass_calls makes base key old dirty clean)
-    have = calls_have cs key (docs_given makes base key old) (docs_by makes base key clean) (names_in old) dirty clean written_has (found_has (index_name key))
+    have = calls_have cs key (docs_given makes base key old) (docs_by makes base key clean) (names_in old) dirty clean written_has (found_has (id_index_name key))
 
     are_plan_calls : (made : List StoreCall) → AreMadeBy cs (pass_calls makes base key old dirty clean) made → made ≡ plan_calls key plan
     are_plan_calls made are =

@@ -13,7 +13,7 @@ use Rattle.std.specs.Ordering.{is_lt, nat_cmp}
 use Rattle.std.specs.Prelude.{IsSome, is_some}
 use Rattle.std.specs.Str.{bytes_eq}
 use Rattle.std.specs.declared.cmp.Ordering.TheVariants.{Less, Equal}
-use Rattle.fold_core.specs.Docs.{look_up}
+use Rattle.fold_core.specs.Docs.{body_named}
 use Rattle.fold_core.specs.declared.doc.Body.{Body}
 use Rattle.fold_core.specs.declared.doc.Doc.{Doc}
 use Rattle.fold_core.proofs.Applied.{back, front, is_less}
@@ -30,11 +30,11 @@ pub same_bytes : (x y : List ℕ) → x ≡ y → bytes_eq x y ≡ true
 same_bytes x y = (bytes_eq-Decides x y).1
 
 -- among documents
-looked_up : (q : List ℕ) (docs : List Doc) → find (slice_cmp nat_cmp) q (map (λ (d : Doc). (d.name, d.body)) docs) ≡ look_up q docs
+looked_up : (q : List ℕ) (docs : List Doc) → find (slice_cmp nat_cmp) q (map (λ (d : Doc). (d.name, d.body)) docs) ≡ body_named q docs
 looked_up q [] = refl
 looked_up q (d ∷ docs) = λ i. cond (is_eq-slice_cmp q d.name i) (Some d.body) (looked_up q docs i)
 
-pub get-by_name : (docs : List Doc) (q : List ℕ) → get (by_name docs) q ≡ look_up q docs
+pub get-by_name : (docs : List Doc) (q : List ℕ) → get (by_name docs) q ≡ body_named q docs
 get-by_name docs q = get-from_entries nat_list_cmp_total (map (λ (d : Doc). (d.name, d.body)) docs) q ∙ looked_up q docs
 
 -- among entries

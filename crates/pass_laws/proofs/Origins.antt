@@ -14,7 +14,7 @@ use Rattle.pkg_meta.specs.declared.entry.Entry.{Entry}
 use Rattle.pkg_meta.specs.declared.item.Details.{Details}
 use Rattle.pkg_meta.specs.declared.item.Item.{Item}
 use Rattle.pkg_meta.specs.declared.item.Item.TheVariants as the
-use Rattle.fold_core.specs.Docs.{brought_at, brought_in, bytes_of, part}
+use Rattle.fold_core.specs.Docs.{brought_at, brought_in, body_bytes, part}
 use Rattle.fold_core.specs.Entries.{Keeps, entries_of, entry_at}
 use Rattle.fold_core.specs.Items.{commits_of, is_of, items_in, items_of}
 use Rattle.fold_core.specs.Laws.{IsOfEntry, has_origin}
@@ -162,6 +162,6 @@ module _ (cs : Catalog) where
       ] refl
 
   -- a body that is of one of the entries has bytes
-  pub body_there : (es : List Entry) (body : Body) → AreThere es → IsOfEntry es body → IsSome (bytes_of cs body)
+  pub body_there : (es : List Entry) (body : Body) → AreThere es → IsOfEntry es body → IsSome (body_bytes cs body)
   body_there es (Made bytes) all is = refl
   body_there es (FromPublish n p nuspec) all is = mapped (part nuspec) (brought_at cs n p) (any_there n p es all is)

@@ -10,7 +10,7 @@ use Rattle.pkg_meta.specs.Catalog.{Catalog}
 use Rattle.pkg_meta.specs.Lawful.{IsLawful, Placed}
 use Rattle.pkg_meta.specs.declared.entry.Entry.{Entry}
 use Rattle.pkg_meta.specs.declared.state.StateDoc.{StateDoc}
-use Rattle.fold_core.specs.Docs.{Makes, bytes_of, index_name}
+use Rattle.fold_core.specs.Docs.{MakesDocs, body_bytes, id_index_name}
 use Rattle.fold_core.specs.Entries.{Keeps}
 use Rattle.fold_core.specs.Events.{IsDirtyPut, names_in}
 use Rattle.fold_core.specs.Folds.{Fold, Look, NamesAt, fold_of, made_at}
@@ -38,20 +38,20 @@ or_same (Some bytes) some = refl
 
 -- a document with its bytes
 abbrev pub with_bytes : Catalog → List ℕ × Body → NamedBytes
-with_bytes cs d = record { name = d.0; bytes = bytes_or (bytes_of cs d.1) }
+with_bytes cs d = record { name = d.0; bytes = bytes_or (body_bytes cs d.1) }
 
 -- the index's bytes where it is put
 abbrev pub index_bytes : Catalog → List ℕ → NamedBodies → Option Body → Option (List ℕ)
 index_bytes cs index given None = None
-index_bytes cs index given (Some body) = cond (is_missing given (index, body)) (Some (bytes_or (bytes_of cs body))) None
+index_bytes cs index given (Some body) = cond (is_missing given (index, body)) (Some (bytes_or (body_bytes cs body))) None
 
 abbrev pub plan_of : Catalog → (key : List ℕ) → (given docs : NamedBodies) → List (List ℕ) → (dirty clean : StateDoc) → PassPlan
 plan_of cs key given docs names dirty clean = record {
   dirty = dirty;
-  written = map (with_bytes cs) (written (index_name key) given docs);
-  index = index_bytes cs (index_name key) given (get docs (index_name key));
-  drops_index = drops_index (index_name key) docs names;
-  removed = filter (is_left_over (index_name key) docs) names;
+  written = map (with_bytes cs) (written (id_index_name key) given docs);
+  index = index_bytes cs (id_index_name key) given (get docs (id_index_name key));
+  drops_index = drops_index (id_index_name key) docs names;
+  removed = filter (is_left_over (id_index_name key) docs) names;
   clean = clean;
 }
 
@@ -81,7 +81,7 @@ some_of : {X : Type 0} (o : Option X) (x : X) (b : Bool) → cond b None o ≡ S
 some_of o x true is = absurd (let no : ⊥ = cc in no)
 some_of o x false is = (refl, is)
 
-module _ (keeps : Keeps) (makes : Makes) (base key : List ℕ) (staged : (number stamp : ℕ) (es : List Entry) → AreOfEntries es (makes base key number stamp es))
+module _ (keeps : Keeps) (makes : MakesDocs) (base key : List ℕ) (staged : (number stamp : ℕ) (es : List Entry) → AreOfEntries es (makes base key number stamp es))
     (cs : Catalog) (lawful : IsLawful cs) (laws : FoldLaws (fold_of keeps makes base) cs) (c : ℕ) (held : Look (List ℕ))
     (old : Option StateDoc) (state : HasState (fold_of keeps makes base) cs c key old held) (items : List Placed)
     (dirty clean : StateDoc) (states : HasStates keeps makes base key old items (length cs) dirty clean)
@@ -93,7 +93,7 @@ module _ (keeps : Keeps) (makes : Makes) (base key : List ℕ) (staged : (number
   k = length cs
 
   abbrev index : List ℕ
-  index = index_name key
+  index = id_index_name key
 
   abbrev docs : NamedBodies
   docs = docs_by makes base key clean
@@ -110,10 +110,10 @@ module _ (keeps : Keeps) (makes : Makes) (base key : List ℕ) (staged : (number
   at_dirty : (name : List ℕ) → made_at f cs key dirty.at name ≡ made_at f cs key k name
   at_dirty name = ap (λ (n : ℕ). made_at f cs key n name) states.dirty_taken.at
 
-  made_is : (name : List ℕ) (body : Body) → get docs name ≡ Some body → made_at f cs key k name ≡ bytes_of cs body
+  made_is : (name : List ℕ) (body : Body) → get docs name ≡ Some body → made_at f cs key k name ≡ body_bytes cs body
   made_is name body is = sym (at_end name) ∙ made_of keeps makes base key staged cs lawful clean clean_scratch name body is
 
-  pub has_bytes : (name : List ℕ) (body : Body) → get docs name ≡ Some body → IsSome (bytes_of cs body)
+  pub has_bytes : (name : List ℕ) (body : Body) → get docs name ≡ Some body → IsSome (body_bytes cs body)
   has_bytes = body_has keeps makes base key staged cs lawful clean clean_scratch
 
   got : (name : List ℕ) → IsSome (made_at f cs key k name) → (body : Body) × (get docs name ≡ Some body)
@@ -157,8 +157,8 @@ module _ (keeps : Keeps) (makes : Makes) (base key : List ℕ) (staged : (number
       let parts = some_of (get docs e.0) e.1 (bytes_eq e.0 index) (sym (get_without docs index e.0) ∙ get_entry (remove docs index) e there.0) in
       (λ same. absurd (let yes_ : bytes_eq e.0 index ≡ true = same_bytes e.0 index same in let no_ : bytes_eq e.0 index ≡ false = parts.0 in let no : ⊥ = cc in no), parts.1)
 
-  made_with : (e : List ℕ × Body) → get docs e.0 ≡ Some e.1 → made_at f cs key k e.0 ≡ Some (bytes_or (bytes_of cs e.1))
-  made_with e is = made_is e.0 e.1 is ∙ or_same (bytes_of cs e.1) (has_bytes e.0 e.1 is)
+  made_with : (e : List ℕ × Body) → get docs e.0 ≡ Some e.1 → made_at f cs key k e.0 ≡ Some (bytes_or (body_bytes cs e.1))
+  made_with e is = made_is e.0 e.1 is ∙ or_same (body_bytes cs e.1) (has_bytes e.0 e.1 is)
 
   all_written : (d : NamedBytes) → Contains plan.written d → (d.name ≢ index) × (made_at f cs key k d.name ≡ Some d.bytes)
   all_written d is =
@@ -194,7 +194,7 @@ module _ (keeps : Keeps) (makes : Makes) (base key : List ℕ) (staged : (number
   index_made : (o : Option Body) → get docs index ≡ o → (bytes : List ℕ) → index_bytes cs index given o ≡ Some bytes → made_at f cs key k index ≡ Some bytes
   index_made None is bytes put = absurd (let no : ⊥ = cc in no)
   index_made (Some body) is bytes put =
-      elim (is_missing given (index, body)) as (λ (b : Bool). cond b (Some (bytes_or (bytes_of cs body))) None ≡ Some bytes → made_at f cs key k index ≡ Some bytes) [
+      elim (is_missing given (index, body)) as (λ (b : Bool). cond b (Some (bytes_or (body_bytes cs body))) None ≡ Some bytes → made_at f cs key k index ≡ Some bytes) [
         | true ↦ λ here. made_with (index, body) is ∙ here
         | false ↦ λ none. absurd (let no : ⊥ = cc in no)
       ] put
@@ -203,7 +203,7 @@ module _ (keeps : Keeps) (makes : Makes) (base key : List ℕ) (staged : (number
   index_left None is some = absurd (no_some (made_at f cs key k index) (none_made index is) some)
   index_left (Some body) is some =
       elim (has_document given index body) as (λ (b : Bool). has_document given index body ≡ b
-      → IsSome (cond (not b) (Some (bytes_or (bytes_of cs body))) None) ⊎ (held index ≡ made_at f cs key k index)) [
+      → IsSome (cond (not b) (Some (bytes_or (body_bytes cs body))) None) ⊎ (held index ≡ made_at f cs key k index)) [
         | true ↦ λ has. inr (held_as index body is has)
         | false ↦ λ missing. inl refl
       ] refl

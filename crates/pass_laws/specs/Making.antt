@@ -4,13 +4,13 @@ use Rattle.std.specs.List.{AllByRecursion}
 use Rattle.blob_store.specs.declared.call.Call.{Call as StoreCall}
 use Rattle.blob_store.specs.declared.call.Call.TheVariants as store
 use Rattle.pkg_meta.specs.Catalog.{Catalog}
-use Rattle.fold_core.specs.Docs.{bytes_of}
+use Rattle.fold_core.specs.Docs.{body_bytes}
 use Rattle.id_pass.specs.declared.call.Call.{Call}
 use Rattle.id_pass.specs.declared.call.Call.TheVariants.{Put, Remove}
 
 -- a call is made with the bytes that the catalog has of its body
 abbrev pub IsMadeBy : Catalog → Call → StoreCall → Type 0
-IsMadeBy cs (Put name body) made = (bytes : List ℕ) → bytes_of cs body ≡ Some bytes → made ≡ store.Put name bytes
+IsMadeBy cs (Put name body) made = (bytes : List ℕ) → body_bytes cs body ≡ Some bytes → made ≡ store.Put name bytes
 IsMadeBy cs (Remove name) made = made ≡ store.Remove name
 
 -- each of the calls, in order
@@ -22,7 +22,7 @@ AreMadeBy cs (call ∷ calls) (c ∷ made) = IsMadeBy cs call c × AreMadeBy cs 
 
 -- the catalog has the bytes of what a call puts
 abbrev pub HasCallBytes : Catalog → Call → Type 0
-HasCallBytes cs (Put name body) = IsSome (bytes_of cs body)
+HasCallBytes cs (Put name body) = IsSome (body_bytes cs body)
 HasCallBytes cs (Remove name) = ⊤
 
 -- of what each call puts

@@ -8,7 +8,7 @@ use Rattle.pkg_meta.specs.declared.item.Details.{Details}
 
 -- a bound of a dependency's range is a SemVer 2.0.0 version
 abbrev pub has_semver2_bound : DepGroup → Bool
-has_semver2_bound g = list_any (λ dep. range.is_semver2 dep.range) g.deps
+has_semver2_bound g = list_any (λ dep. range.is_semver2_range dep.range) g.deps
 
 -- the version is a SemVer 2.0.0 one, or a bound of a dependency's range is
 abbrev pub is_semver2_package : Details → Bool

@@ -1,15 +1,10 @@
 -- The names of the registration documents below an id's folder, and where they are served.
 use Rattle.std.specs.Prelude.{ℕ, List, ◌++◌, codes}
-use Rattle.nuget_version.specs.Printed.{key_text}
-use Rattle.pkg_meta.specs.Entries.{version_in}
+use Rattle.pkg_meta.specs.Entries.{key_in}
 use Rattle.pkg_meta.specs.declared.entry.Entry.{Entry}
-use Rattle.fold_core.specs.Docs.{name_of}
+use Rattle.fold_core.specs.Docs.{name_below}
 use Rattle.reg_docs.specs.declared.addresses.RegistrationHive.{RegistrationHive}
 use Rattle.reg_docs.specs.declared.addresses.RegistrationHive.TheVariants as the
-
--- the key of an entry's version
-abbrev pub key_in : Entry → List ℕ
-key_in e = key_text (version_in e)
 
 -- where a hive's documents are served, below the feed's base address
 abbrev pub root_of : List ℕ → RegistrationHive → List ℕ
@@ -38,8 +33,8 @@ package_url base key version = base ++ (codes "v3/flat/" ++ (key ++ (codes "/" +
 
 -- the name of a version's leaf
 abbrev pub registration_leaf_name : List ℕ → List ℕ → List ℕ
-registration_leaf_name key version = name_of key (version ++ codes ".json")
+registration_leaf_name key version = name_below key (version ++ codes ".json")
 
 -- the name of a stored page
 abbrev pub registration_page_name : List ℕ → List ℕ → List ℕ → List ℕ
-registration_page_name key lower upper = name_of key (codes "page/" ++ (lower ++ (codes "/" ++ (upper ++ codes ".json"))))
+registration_page_name key lower upper = name_below key (codes "page/" ++ (lower ++ (codes "/" ++ (upper ++ codes ".json"))))

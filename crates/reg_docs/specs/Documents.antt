@@ -5,13 +5,14 @@ use Rattle.serde_json.specs.View.{items_of}
 use Rattle.serde_json.specs.Written.{compact_text}
 use Rattle.nuget_version.specs.Printed.{key_text, normal_text}
 use Rattle.ticks.specs.Stamp.{stamp_text}
+use Rattle.pkg_meta.specs.Entries.{key_in}
 use Rattle.pkg_meta.specs.Trees.{published_text}
 use Rattle.pkg_meta.specs.declared.entry.Entry.{Entry}
 use Rattle.catalog_doc.specs.Documents.{commit_id}
-use Rattle.fold_core.specs.Docs.{index_name}
+use Rattle.fold_core.specs.Docs.{id_index_name}
 use Rattle.fold_core.specs.declared.doc.Body.TheVariants.{Made}
 use Rattle.fold_core.specs.declared.doc.Doc.{Doc}
-use Rattle.reg_docs.specs.Addresses.{registration_index_url, inlined_url, key_in, registration_leaf_name, registration_leaf_url, package_url, registration_page_name, registration_page_url, root_of}
+use Rattle.reg_docs.specs.Addresses.{registration_index_url, inlined_url, registration_leaf_name, registration_leaf_url, package_url, registration_page_name, registration_page_url, root_of}
 use Rattle.reg_docs.specs.Entries.{reg_entry_data, item_url}
 use Rattle.reg_docs.specs.Pages.{cut, first_in, form_of, is_inlined, last_in}
 use Rattle.reg_docs.specs.declared.addresses.RegistrationHive.{RegistrationHive}
@@ -117,7 +118,7 @@ registration_leaf_text base root key e = compact_text (registration_leaf_data ba
 
 -- the id's index
 abbrev pub registration_index_doc : List ℕ → List ℕ → List ℕ → ℕ → ℕ → List Entry → Doc
-registration_index_doc base root key touched stamp es = record { name = index_name key; body = Made (registration_index_text base root key touched stamp es) }
+registration_index_doc base root key touched stamp es = record { name = id_index_name key; body = Made (registration_index_text base root key touched stamp es) }
 
 -- a stored page
 abbrev pub registration_page_doc : List ℕ → List ℕ → List ℕ → List Entry → Doc

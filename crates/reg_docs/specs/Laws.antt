@@ -10,14 +10,14 @@ use Rattle.nuget_version.specs.Precedence.{precedence}
 use Rattle.nuget_version.specs.Printed.{key_text}
 use Rattle.nuget_version.specs.declared.version.Version.{Version}
 use Rattle.nuget_version.proofs.Forms.{key-no_slash}
-use Rattle.fold_core.specs.Docs.{before_slash, index_name, look_up, name_of, owner}
+use Rattle.fold_core.specs.Docs.{before_slash, id_index_name, body_named, name_below, owner}
 use Rattle.fold_core.proofs.DocNames.{apart, found_first, owner_of, whole_front}
 use Rattle.fold_core.proofs.Versions.{other_key}
-use Rattle.pkg_meta.specs.Entries.{AreRising, version_in}
+use Rattle.pkg_meta.specs.Entries.{AreRising, key_in, version_in}
 use Rattle.fold_core.specs.Laws.{AreOfEntries, AreOwned, HaveOwnNames, IsOfEntry, IsWhole}
 use Rattle.fold_core.specs.declared.doc.Doc.{Doc}
 use Rattle.pkg_meta.specs.declared.entry.Entry.{Entry}
-use Rattle.reg_docs.specs.Addresses.{key_in, root_of}
+use Rattle.reg_docs.specs.Addresses.{root_of}
 use Rattle.reg_docs.specs.Documents.{docs_below, registration_index_doc, registration_leaf_doc, registration_page_doc, registration_page_docs, registration_docs}
 use Rattle.reg_docs.specs.Pages.{cut, cut_within, first_in, form_of, is_inlined, last_in}
 use Rattle.reg_docs.specs.declared.addresses.RegistrationHive.{RegistrationHive}
@@ -47,21 +47,21 @@ module _ (P : Doc → Type 0) (base root key : List ℕ) (page : (run : List Ent
   all_docs number stamp (e ∷ es) index =
       (index (e ∷ es), all_of_both P (registration_page_docs base root key (e ∷ es)) (map (registration_leaf_doc base root key) (e ∷ es)) (all_pages (e ∷ es)) (all_made P (registration_leaf_doc base root key) leaf (e ∷ es)))
 
-pub docs_owned : (hive : RegistrationHive) (base key : List ℕ) (number stamp : ℕ) (es : List Entry) → IsWhole key
+pub registration_docs_owned : (hive : RegistrationHive) (base key : List ℕ) (number stamp : ℕ) (es : List Entry) → IsWhole key
     → AreOwned key (registration_docs hive base key number stamp es)
-docs_owned hive base key number stamp es whole =
+registration_docs_owned hive base key number stamp es whole =
     all_docs (λ (d : Doc). owner d.name ≡ Some key) base (root_of base hive) key (λ run. owner_of key _ whole) (λ e. owner_of key _ whole)
     number stamp es (λ es'. owner_of key _ whole)
 
-pub docs_staged : (hive : RegistrationHive) (base key : List ℕ) (number stamp : ℕ) (es : List Entry) → AreOfEntries es (registration_docs hive base key number stamp es)
-docs_staged hive base key number stamp es =
+pub registration_docs_staged : (hive : RegistrationHive) (base key : List ℕ) (number stamp : ℕ) (es : List Entry) → AreOfEntries es (registration_docs hive base key number stamp es)
+registration_docs_staged hive base key number stamp es =
     all_docs (λ (d : Doc). IsOfEntry es d.body) base (root_of base hive) key (λ run. tt) (λ e. tt) number stamp es (λ es'. tt)
 
-pub docs_indexed : (hive : RegistrationHive) (base key : List ℕ) (number stamp : ℕ) (es : List Entry) → es ≢ []
-    → IsSome (look_up (index_name key) (registration_docs hive base key number stamp es))
-docs_indexed hive base key number stamp [] some = absurd (some refl)
-docs_indexed hive base key number stamp (e ∷ es) some =
-    found_first (index_name key) (registration_index_doc base (root_of base hive) key number stamp (e ∷ es))
+pub registration_docs_indexed : (hive : RegistrationHive) (base key : List ℕ) (number stamp : ℕ) (es : List Entry) → es ≢ []
+    → IsSome (body_named (id_index_name key) (registration_docs hive base key number stamp es))
+registration_docs_indexed hive base key number stamp [] some = absurd (some refl)
+registration_docs_indexed hive base key number stamp (e ∷ es) some =
+    found_first (id_index_name key) (registration_index_doc base (root_of base hive) key number stamp (e ∷ es))
     (registration_page_docs base (root_of base hive) key (e ∷ es) ++ map (registration_leaf_doc base (root_of base hive) key) (e ∷ es)) refl
 
 -- the names behind a key's folder
@@ -81,13 +81,13 @@ not_leaf e b rest letter same =
 
 -- a name behind the folder is none of those of leaves
 none_of_leaves : (base root key r : List ℕ) (es : List Entry) → ((e : Entry) → r ≢ leaf_end e)
-    → AllByRecursion (λ y. bytes_eq (name_of key r) y ≡ false) (map (λ (d : Doc). d.name) (map (registration_leaf_doc base root key) es))
+    → AllByRecursion (λ y. bytes_eq (name_below key r) y ≡ false) (map (λ (d : Doc). d.name) (map (registration_leaf_doc base root key) es))
 none_of_leaves base root key r [] other = tt
 none_of_leaves base root key r (e ∷ es) other = (apart key r _ (other e), none_of_leaves base root key r es other)
 
 -- nor of those of pages
 none_of_pages : (base root key r : List ℕ) (runs : List (List Entry)) → AllByRecursion (λ run. r ≢ page_end run) runs
-    → AllByRecursion (λ y. bytes_eq (name_of key r) y ≡ false) (map (λ (d : Doc). d.name) (map (registration_page_doc base root key) runs))
+    → AllByRecursion (λ y. bytes_eq (name_below key r) y ≡ false) (map (λ (d : Doc). d.name) (map (registration_page_doc base root key) runs))
 none_of_pages base root key r [] other = tt
 none_of_pages base root key r (run ∷ runs) other = (apart key r _ other.0, none_of_pages base root key r runs other.1)
 
@@ -102,7 +102,7 @@ other_leaf : (e f : Entry) → precedence (version_in e) (version_in f) ≡ Less
 other_leaf e f less same = other_key e f less (append_cancel_right (key_in e) (key_in f) (codes ".json") same)
 
 leaves_apart : (base root key : List ℕ) (e : Entry) (es : List Entry) → AllByRecursion (λ w. precedence (version_in e) w ≡ Less) (map version_in es)
-    → AllByRecursion (λ y. bytes_eq (name_of key (leaf_end e)) y ≡ false) (map (λ (d : Doc). d.name) (map (registration_leaf_doc base root key) es))
+    → AllByRecursion (λ y. bytes_eq (name_below key (leaf_end e)) y ≡ false) (map (λ (d : Doc). d.name) (map (registration_leaf_doc base root key) es))
 leaves_apart base root key e [] below = tt
 leaves_apart base root key e (f ∷ es) below = (apart key _ _ (other_leaf e f below.0), leaves_apart base root key e es below.1)
 
@@ -166,7 +166,7 @@ module _ (base root key : List ℕ) where
   unfolding IsDistinct
   before_leaves [] es pages leaves = leaves
   before_leaves (run ∷ runs) es pages leaves = (
-    subst (AllByRecursion (λ y. bytes_eq (name_of key (page_end run)) y ≡ false)) (sym (map-append (λ (d : Doc). d.name) (map (registration_page_doc base root key) runs) (map (registration_leaf_doc base root key) es)))
+    subst (AllByRecursion (λ y. bytes_eq (name_below key (page_end run)) y ≡ false)) (sym (map-append (λ (d : Doc). d.name) (map (registration_page_doc base root key) runs) (map (registration_leaf_doc base root key) es)))
         (all_of_both _ (map (λ (d : Doc). d.name) (map (registration_page_doc base root key) runs)) (map (λ (d : Doc). d.name) (map (registration_leaf_doc base root key) es)) pages.0
         (none_of_leaves base root key (page_end run) es (λ e. not_leaf e 112 _ (omega arith)))),
     before_leaves runs es pages.1 leaves,
@@ -176,9 +176,9 @@ module _ (base root key : List ℕ) where
   not_page [] = tt
   not_page (run ∷ runs) = (λ same. omega (arith, ap (λ (t : List ℕ). get_or t 0 0) same), not_page runs)
 
-  below_index : (runs : List (List Entry)) (es : List Entry) → AllByRecursion (λ y. bytes_eq (index_name key) y ≡ false) (map (λ (d : Doc). d.name) (map (registration_page_doc base root key) runs ++ map (registration_leaf_doc base root key) es))
+  below_index : (runs : List (List Entry)) (es : List Entry) → AllByRecursion (λ y. bytes_eq (id_index_name key) y ≡ false) (map (λ (d : Doc). d.name) (map (registration_page_doc base root key) runs ++ map (registration_leaf_doc base root key) es))
   below_index runs es =
-      subst (AllByRecursion (λ y. bytes_eq (index_name key) y ≡ false)) (sym (map-append (λ (d : Doc). d.name) (map (registration_page_doc base root key) runs) (map (registration_leaf_doc base root key) es)))
+      subst (AllByRecursion (λ y. bytes_eq (id_index_name key) y ≡ false)) (sym (map-append (λ (d : Doc). d.name) (map (registration_page_doc base root key) runs) (map (registration_leaf_doc base root key) es)))
       (all_of_both _ (map (λ (d : Doc). d.name) (map (registration_page_doc base root key) runs)) (map (λ (d : Doc). d.name) (map (registration_leaf_doc base root key) es))
       (none_of_pages base root key (codes "index.json") runs (not_page runs))
       (none_of_leaves base root key (codes "index.json") es (λ e. not_leaf e 105 _ (omega arith))))
@@ -198,6 +198,6 @@ module _ (base root key : List ℕ) where
         | false ↦ of_runs (cut (e ∷ es)) (e ∷ es) number stamp (pages_distinct base root key (length (e ∷ es)) (e ∷ es) rising) rising
       ]
 
-pub docs_distinct : (hive : RegistrationHive) (base key : List ℕ) (number stamp : ℕ) (es : List Entry) → AreRising es
+pub registration_docs_distinct : (hive : RegistrationHive) (base key : List ℕ) (number stamp : ℕ) (es : List Entry) → AreRising es
     → HaveOwnNames (registration_docs hive base key number stamp es)
-docs_distinct hive base key number stamp es rising = below_distinct base (root_of base hive) key number stamp es rising
+registration_docs_distinct hive base key number stamp es rising = below_distinct base (root_of base hive) key number stamp es rising

@@ -1,7 +1,8 @@
 // Where documents are served, and their names.
 ghost use Rattle.std.specs.Prelude.{◌≡◌, IfOk, string_bytes};
 ghost use Rattle.fold_core.specs.Docs as docs;
-ghost use Rattle.reg_docs.specs.Addresses.{registration_index_url, inlined_url, key_in, registration_leaf_name, registration_leaf_url, package_url, registration_page_name, registration_page_url, root_of};
+ghost use Rattle.pkg_meta.specs.Entries.{key_in};
+ghost use Rattle.reg_docs.specs.Addresses.{registration_index_url, inlined_url, registration_leaf_name, registration_leaf_url, package_url, registration_page_name, registration_page_url, root_of};
 
 use fold_core::{Entry, NoMemory, Text};
 use std::alloc::{AllocError, Global};
@@ -89,7 +90,7 @@ pub(crate) fn package_url(
 }
 
 pub(crate) fn index_name(alloc: Global, key: &str) -> Result<Text, NoMemory>
-    ensures { IfOk result (λ name. name ≡ docs.index_name key.now) }
+    ensures { IfOk result (λ name. name ≡ docs.id_index_name key.now) }
 {
     let name = format!(in alloc; "d/{key}/index.json")?;
     Ok(Text::of(name))

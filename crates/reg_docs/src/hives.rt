@@ -2,7 +2,7 @@
 ghost use Rattle.std.specs.Prelude.{refl};
 ghost use Rattle.reg_docs.specs.Documents.{registration_docs};
 ghost use Rattle.reg_docs.specs.Entries.{keeps_every, keeps_plain};
-ghost use Rattle.reg_docs.specs.Laws.{docs_distinct, docs_indexed, docs_owned, docs_staged};
+ghost use Rattle.reg_docs.specs.Laws.{registration_docs_distinct, registration_docs_indexed, registration_docs_owned, registration_docs_staged};
 ghost use Rattle.reg_docs.specs.declared.addresses.RegistrationHive.TheVariants as the;
 
 use crate::addresses::RegistrationHive;
@@ -42,13 +42,13 @@ impl Hive for Plain {
 
     ghost empty = { λ base key number stamp. refl };
 
-    ghost owned = { docs_owned the.Plain };
+    ghost owned = { registration_docs_owned the.Plain };
 
-    ghost distinct = { λ base key number stamp es whole rising. docs_distinct the.Plain base key number stamp es rising };
+    ghost distinct = { λ base key number stamp es whole rising. registration_docs_distinct the.Plain base key number stamp es rising };
 
-    ghost indexed = { docs_indexed the.Plain };
+    ghost indexed = { registration_docs_indexed the.Plain };
 
-    ghost staged = { docs_staged the.Plain };
+    ghost staged = { registration_docs_staged the.Plain };
 }
 
 impl Hive for SemVer2 {
@@ -76,11 +76,11 @@ impl Hive for SemVer2 {
 
     ghost empty = { λ base key number stamp. refl };
 
-    ghost owned = { docs_owned the.SemVer2 };
+    ghost owned = { registration_docs_owned the.SemVer2 };
 
-    ghost distinct = { λ base key number stamp es whole rising. docs_distinct the.SemVer2 base key number stamp es rising };
+    ghost distinct = { λ base key number stamp es whole rising. registration_docs_distinct the.SemVer2 base key number stamp es rising };
 
-    ghost indexed = { docs_indexed the.SemVer2 };
+    ghost indexed = { registration_docs_indexed the.SemVer2 };
 
-    ghost staged = { docs_staged the.SemVer2 };
+    ghost staged = { registration_docs_staged the.SemVer2 };
 }

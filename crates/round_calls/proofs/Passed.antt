@@ -12,7 +12,7 @@ use Rattle.pkg_meta.specs.Catalog.{Catalog}
 use Rattle.pkg_meta.specs.Lawful.{IsLawful, Placed}
 use Rattle.pkg_meta.specs.declared.entry.Entry.{Entry}
 use Rattle.pkg_meta.specs.declared.state.StateDoc.{StateDoc}
-use Rattle.fold_core.specs.Docs.{Makes}
+use Rattle.fold_core.specs.Docs.{MakesDocs}
 use Rattle.fold_core.specs.Entries.{Keeps}
 use Rattle.fold_core.specs.Events.{names_in}
 use Rattle.fold_core.specs.Folds.{Fold, fold_of}
@@ -63,7 +63,7 @@ with_others cs [] (x ∷ made) have are = absurd are
 with_others cs (call ∷ calls) (x ∷ made) have are =
     let rest = with_others cs calls made have.1 are.1 in (rest.0, (are.0, rest.1))
 
-module _ (keeps : Keeps) (makes : Makes) (base : List ℕ) (staged : (base key : List ℕ) (number stamp : ℕ) (es : List Entry) → AreOfEntries es (makes base key number stamp es))
+module _ (keeps : Keeps) (makes : MakesDocs) (base : List ℕ) (staged : (base key : List ℕ) (number stamp : ℕ) (es : List Entry) → AreOfEntries es (makes base key number stamp es))
     (cs : Catalog) (c : ℕ) (key : List ℕ) (old : Option StateDoc) (m : Area) (laws : FoldLaws (fold_of keeps makes base) cs)
     (starts : StartsPassOf (fold_of keeps makes base) cs c key old m) where
   abbrev f : Fold

@@ -13,7 +13,7 @@ use Rattle.pkg_meta.specs.Catalog.{Catalog}
 use Rattle.pkg_meta.specs.declared.entry.Entry.{Entry}
 use Rattle.catalog_doc.specs.Catalogs.{IsCatalog}
 use Rattle.cursor_doc.specs.Cursor.{cursor_name, cursor_text}
-use Rattle.fold_core.specs.Docs.{Makes}
+use Rattle.fold_core.specs.Docs.{MakesDocs}
 use Rattle.fold_core.specs.Entries.{Keeps}
 use Rattle.fold_core.specs.Folds.{Fold, fold_of, touched_by}
 use Rattle.fold_core.specs.Laws.{AreOfEntries}
@@ -44,7 +44,7 @@ all_some Q [] (x ∷ made) are = are
 all_some Q (call ∷ calls) [] are = tt
 all_some Q (call ∷ calls) (x ∷ made) are = (are.0, all_some Q calls made are.1)
 
-module _ (keeps : Keeps) (makes : Makes) (base : List ℕ) (staged : (base key : List ℕ) (number stamp : ℕ) (es : List Entry)
+module _ (keeps : Keeps) (makes : MakesDocs) (base : List ℕ) (staged : (base key : List ℕ) (number stamp : ℕ) (es : List Entry)
     → AreOfEntries es (makes base key number stamp es))
     (cs : Catalog) (catalog : IsCatalog cs) (laws : FoldLaws (fold_of keeps makes base) cs) (Q : Catalog → Type 0) (meant : Q cs) (c : ℕ)
     (target : ℕ) (ends : target ≡ length cs) where
@@ -133,7 +133,7 @@ module _ (keeps : Keeps) (makes : Makes) (base : List ℕ) (staged : (base key :
           joined f cs (length cs) (round_plan passes) (pass_plan last) m (tt, passes_meet passes m sound own all) (part_meets last there on item part)
 
 -- by what the round answered
-module _ (keeps : Keeps) (makes : Makes) (base : List ℕ) (staged : (base key : List ℕ) (number stamp : ℕ) (es : List Entry)
+module _ (keeps : Keeps) (makes : MakesDocs) (base : List ℕ) (staged : (base key : List ℕ) (number stamp : ℕ) (es : List Entry)
     → AreOfEntries es (makes base key number stamp es))
     (cs : Catalog) (Q : Catalog → Type 0) (c : ℕ) (m : Area) (old new : Seen)
     (laws : FoldLaws (fold_of keeps makes base) cs) (on : OnSoundArea (fold_of keeps makes base) Q cs c m old) where

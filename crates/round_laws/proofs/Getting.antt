@@ -19,7 +19,7 @@ use Rattle.catalog_doc.specs.Spelled.{SpellsCatalog}
 use Rattle.catalog_doc.specs.declared.row.Row.{Row}
 use Rattle.catalog_items.specs.Leaves.{AreItemValues, HoldsLeaf, HoldsLeaves, is_at, row_with}
 use Rattle.catalog_core.proofs.AllCommits.{all_held, all_values}
-use Rattle.fold_core.specs.Docs.{Makes, bytes_of}
+use Rattle.fold_core.specs.Docs.{MakesDocs, body_bytes}
 use Rattle.fold_core.specs.Entries.{Keeps}
 use Rattle.fold_core.specs.Folds.{Fold, fold_of, touched_by}
 use Rattle.fold_core.specs.Laws.{AreOfEntries}
@@ -87,7 +87,7 @@ module _ (m : Area) (base : List ℕ) (cs : Catalog) (catalog : IsCatalog cs) (s
       none held.0 held.1 held.2
 
   -- and what each publish brought
-  file_held : (number place : ℕ) (nuspec : Bool) → IsSome (bytes_of cs (FromPublish number place nuspec)) → get m (staged_name number place nuspec) ≡ None → ⊥
+  file_held : (number place : ℕ) (nuspec : Bool) → IsSome (body_bytes cs (FromPublish number place nuspec)) → get m (staged_name number place nuspec) ≡ None → ⊥
   file_held number place true some none =
       let b = brought_of cs number place true catalog.lawful.commits some in
       let held : get m (nuspec_name number place) ≡ Some b.brought.nuspec =
@@ -125,7 +125,7 @@ module _ (m : Area) (base : List ℕ) (cs : Catalog) (catalog : IsCatalog cs) (s
       ((λ (lost : IsNoStaged m (staged_name number place nuspec)). file_held number place nuspec have.0 lost.4), bodies_found calls have.1)
   bodies_found (Remove name ∷ calls) have = bodies_found calls have.1
 
-  module _ (keeps : Keeps) (makes : Makes) (own : List ℕ) (staged : (base key : List ℕ) (number stamp : ℕ) (es : List Entry)
+  module _ (keeps : Keeps) (makes : MakesDocs) (own : List ℕ) (staged : (base key : List ℕ) (number stamp : ℕ) (es : List Entry)
       → AreOfEntries es (makes base key number stamp es))
       (laws : FoldLaws (fold_of keeps makes own) cs) (Q : Catalog → Type 0) (meant : Q cs) (c : ℕ) (rows : List Row) where
     abbrev f : Fold

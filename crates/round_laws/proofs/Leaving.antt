@@ -12,7 +12,7 @@ use Rattle.blob_store.proofs.Stepping.{after_plan-append}
 use Rattle.pkg_meta.specs.Catalog.{Catalog}
 use Rattle.pkg_meta.specs.declared.entry.Entry.{Entry}
 use Rattle.cursor_doc.specs.Cursor.{cursor_name}
-use Rattle.fold_core.specs.Docs.{Makes}
+use Rattle.fold_core.specs.Docs.{MakesDocs}
 use Rattle.fold_core.specs.Entries.{Keeps}
 use Rattle.fold_core.specs.Folds.{Fold, fold_of}
 use Rattle.fold_core.specs.Laws.{AreOfEntries}
@@ -45,7 +45,7 @@ stops_keep plan blob.Memory a b m P is stops to = run_keeps plan a b m is {A = U
 weaker : (P R : Area → Type 0) (a b : Seen) → ((left : Area) → P left → R left) → KeepsArea P a b → KeepsArea R a b
 weaker P R a b to keeps = ((keeps.0.0, keeps.0.1, to keeps.0.0 keeps.0.2), weaken P R a b to keeps.1)
 
-module _ (keeps : Keeps) (makes : Makes) (base : List ℕ) (staged : (base key : List ℕ) (number stamp : ℕ) (es : List Entry)
+module _ (keeps : Keeps) (makes : MakesDocs) (base : List ℕ) (staged : (base key : List ℕ) (number stamp : ℕ) (es : List Entry)
     → AreOfEntries es (makes base key number stamp es))
     (cs : Catalog) (Q : Catalog → Type 0) (c : ℕ) (m : Area) (old new : Seen)
     (laws : FoldLaws (fold_of keeps makes base) cs) (on : OnSoundArea (fold_of keeps makes base) Q cs c m old) where

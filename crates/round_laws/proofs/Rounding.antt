@@ -8,7 +8,7 @@ use Rattle.blob_store.proofs.Stepping.{holds}
 use Rattle.pkg_meta.specs.Catalog.{Catalog}
 use Rattle.pkg_meta.specs.declared.entry.Entry.{Entry}
 use Rattle.cursor_doc.specs.Cursor.{cursor_name}
-use Rattle.fold_core.specs.Docs.{Makes}
+use Rattle.fold_core.specs.Docs.{MakesDocs}
 use Rattle.fold_core.specs.Entries.{Keeps}
 use Rattle.fold_core.specs.Folds.{Fold, fold_of}
 use Rattle.fold_core.specs.Laws.{AreOfEntries}
@@ -21,7 +21,7 @@ use Rattle.job_round.specs.Rounds.{IsNoTask, IsTask, Rounds, cursor_put, round_p
 use Rattle.round_laws.specs.OnAreas.{HoldsArea, OnSoundArea}
 use Rattle.round_laws.proofs.Ways.{cursor_is, settles, task_cursor}
 
-module _ (keeps : Keeps) (makes : Makes) (base : List ℕ) (staged : (base key : List ℕ) (number stamp : ℕ) (es : List Entry)
+module _ (keeps : Keeps) (makes : MakesDocs) (base : List ℕ) (staged : (base key : List ℕ) (number stamp : ℕ) (es : List Entry)
     → AreOfEntries es (makes base key number stamp es))
     (cs : Catalog) (Q : Catalog → Type 0) (c : ℕ) (m : Area) (old new : Seen)
     (laws : FoldLaws (fold_of keeps makes base) cs) (on : OnSoundArea (fold_of keeps makes base) Q cs c m old) where

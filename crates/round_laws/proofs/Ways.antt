@@ -17,7 +17,7 @@ use Rattle.catalog_doc.specs.Catalogs.{IsCatalog}
 use Rattle.cursor_doc.specs.Cursor.{cursor_name, cursor_text}
 use Rattle.hive_state.specs.Reading.{IsStateValue}
 use Rattle.hive_state.specs.State.{state_name, state_text}
-use Rattle.fold_core.specs.Docs.{Makes}
+use Rattle.fold_core.specs.Docs.{MakesDocs}
 use Rattle.fold_core.specs.Entries.{Keeps}
 use Rattle.fold_core.specs.Folds.{Fold, fold_of, touched_by}
 use Rattle.fold_core.specs.Items.{commits_of, stamp_in}
@@ -73,7 +73,7 @@ pub cursor_last : (cs : Catalog) (c : ℕ) → c < length cs → cursor_at cs (l
 cursor_last [] c less = absurd (omega (arith, less))
 cursor_last (x ∷ cs) c less = ap (λ (s : ℕ). Some (cursor_text (length (x ∷ cs)) s)) (last_stamp x cs)
 
-module _ (keeps : Keeps) (makes : Makes) (base : List ℕ) (staged : (base key : List ℕ) (number stamp : ℕ) (es : List Entry)
+module _ (keeps : Keeps) (makes : MakesDocs) (base : List ℕ) (staged : (base key : List ℕ) (number stamp : ℕ) (es : List Entry)
     → AreOfEntries es (makes base key number stamp es))
     (cs : Catalog) (catalog : IsCatalog cs) (laws : FoldLaws (fold_of keeps makes base) cs) (Q : Catalog → Type 0) (meant : Q cs) (c : ℕ) where
   abbrev f : Fold

@@ -9,7 +9,7 @@ use Rattle.pkg_meta.specs.declared.entry.Entry.{Entry}
 use Rattle.catalog_core.specs.Opened.{IsOpenFor, Opened}
 use Rattle.catalog_core.proofs.Frames.{ready_keeps, ready_of, ready_store}
 use Rattle.catalog_rows.specs.Kept.{Kept}
-use Rattle.fold_core.specs.Docs.{Makes}
+use Rattle.fold_core.specs.Docs.{MakesDocs}
 use Rattle.fold_core.specs.Entries.{Keeps}
 use Rattle.fold_core.specs.Folds.{Fold, fold_of}
 use Rattle.fold_core.specs.Laws.{AreOfEntries}
@@ -39,7 +39,7 @@ in_catalog-not_hive Auto name other is = apart_second (in_catalog name) (in_hive
 one_name : (name other : List ℕ) → in_catalog name ≡ in_catalog other → name ≡ other
 one_name name other is = ap (drop 8) is
 
-module _ {B : Type 0} (keeps : Keeps) (makes : Makes) (base : List ℕ) (staged : (base key : List ℕ) (number stamp : ℕ) (es : List Entry)
+module _ {B : Type 0} (keeps : Keeps) (makes : MakesDocs) (base : List ℕ) (staged : (base key : List ℕ) (number stamp : ℕ) (es : List Entry)
     → AreOfEntries es (makes base key number stamp es))
     (o n : Opened B) (before after old new : Seen) (cs : Catalog) (c : ℕ) (hive : Area) (laws : FoldLaws (fold_of keeps makes base) cs)
     (on : OnSoundArea (fold_of keeps makes base) (IsOpenFor o before) cs c hive old) (text : List ℕ)

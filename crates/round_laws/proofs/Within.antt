@@ -13,7 +13,7 @@ use Rattle.pkg_meta.specs.declared.entry.Entry.{Entry}
 use Rattle.catalog_doc.specs.Catalogs.{IsCatalog}
 use Rattle.cursor_doc.specs.Cursor.{cursor_name}
 use Rattle.hive_state.specs.State.{state_name}
-use Rattle.fold_core.specs.Docs.{Makes}
+use Rattle.fold_core.specs.Docs.{MakesDocs}
 use Rattle.fold_core.specs.Entries.{Keeps}
 use Rattle.fold_core.specs.Folds.{Fold, fold_of, touched_by}
 use Rattle.fold_core.specs.Laws.{AreOfEntries}
@@ -52,7 +52,7 @@ all_some Q [] (x ∷ made) are = are
 all_some Q (call ∷ calls) [] are = tt
 all_some Q (call ∷ calls) (x ∷ made) are = (are.0, all_some Q calls made are.1)
 
-module _ (keeps : Keeps) (makes : Makes) (base : List ℕ) (staged : (base key : List ℕ) (number stamp : ℕ) (es : List Entry)
+module _ (keeps : Keeps) (makes : MakesDocs) (base : List ℕ) (staged : (base key : List ℕ) (number stamp : ℕ) (es : List Entry)
     → AreOfEntries es (makes base key number stamp es))
     (cs : Catalog) (catalog : IsCatalog cs) (laws : FoldLaws (fold_of keeps makes base) cs) (Q : Catalog → Type 0) (meant : Q cs) (c : ℕ)
     (target : ℕ) (ends : target ≡ length cs) where

@@ -8,8 +8,8 @@ use Rattle.std.proofs.lemmas.List.{replicate-append-replicate}
 use Rattle.std.proofs.lemmas.List.Folds.{list_all-append}
 use Rattle.std.proofs.lemmas.Bool.Decides.{nat_tests}
 use Rattle.ticks.specs.Stamp.{last_digits}
-use Rattle.ticks.specs.Scan.{is_digit, fits, fitting_len, is_front_then, is_part_then, is_end, is_zone, is_decimals, is_tail, tail_places, is_stamp, StopsAt}
-use Rattle.ticks.specs.Reading.{Zone, letter, digits, Written, IsTextOf, IsForm, IsLongestFront, decimals_text, zone_text, written_text}
+use Rattle.ticks.specs.Scan.{is_digit, fits, fitting_len, is_front_then, is_part_then, is_end, is_zone, is_decimals, is_tail, tail_places, is_stamp, GoesWrongAt}
+use Rattle.ticks.specs.Reading.{Zone, letter, digits, Written, IsTextOf, IsForm, IsLongestFormFront, decimals_text, zone_text, written_text}
 use Rattle.ticks.proofs.Digits.{length-last_digits}
 
 -- a digit before others
@@ -339,7 +339,7 @@ places_are text w is =
     ap (λ (l : List ℕ). tail_places (drop 19 l)) is.spelled ∙ tail_places_are w.places w.fraction w.zone is.fits.places
 
 -- where the test stops is the end of the longest prefix
-pub refused_there : (text : List ℕ) (at : ℕ) → StopsAt is_stamp text at → (IsForm text → ⊥) × IsLongestFront text at
+pub refused_there : (text : List ℕ) (at : ℕ) → GoesWrongAt is_stamp text at → (IsForm text → ⊥) × IsLongestFormFront text at
 refused_there text at h = (
   λ form. differ (is_stamp text) h.refused (written_passes text form.0 form.1),
   record {

@@ -71,17 +71,17 @@ abbrev pub NamesMoment : List ℕ → ℕ → Type 0
 NamesMoment text number = (w : Written) × IsTextOf w text × IsMomentOf w number
 
 -- the text begins some text of the form
-abbrev pub Begins : List ℕ → Type 0
-Begins text = (rest : List ℕ) × IsForm (text ++ rest)
+abbrev pub BeginsForm : List ℕ → Type 0
+BeginsForm text = (rest : List ℕ) × IsForm (text ++ rest)
 
 -- the longest prefix of the text that begins some text of the form has this length
-pub record IsLongestFront (text : List ℕ) (at : ℕ) : Type 0 where
+pub record IsLongestFormFront (text : List ℕ) (at : ℕ) : Type 0 where
   pub within : at ≤ length text
-  pub begins : Begins (take at text)
-  pub longest : (n : ℕ) → at < n → n ≤ length text → Begins (take n text) → ⊥
+  pub begins : BeginsForm (take at text)
+  pub longest : (n : ℕ) → at < n → n ≤ length text → BeginsForm (take n text) → ⊥
 
 -- when each refusal comes
 abbrev pub Refuses : List ℕ → TickErr → Type 0
-Refuses text (BadByte at) = (IsForm text → ⊥) × IsLongestFront text at
+Refuses text (BadByte at) = (IsForm text → ⊥) × IsLongestFormFront text at
 Refuses text OutOfRange = IsForm text × ((number : ℕ) → NamesMoment text number → ⊥)
 Refuses text Memory = ⊥

@@ -70,7 +70,7 @@ abbrev pub BeginsOne : (List ℕ → Bool) → List ℕ → Type 0
 BeginsOne test text = (rest : List ℕ) × (test (text ++ rest) ≡ true)
 
 -- the longest prefix that begins one that passes has this length, and the text itself doesn't pass
-pub record StopsAt (test : List ℕ → Bool) (text : List ℕ) (at : ℕ) : Type 0 where
+pub record GoesWrongAt (test : List ℕ → Bool) (text : List ℕ) (at : ℕ) : Type 0 where
   pub refused : test text ≡ false
   pub within : at ≤ length text
   pub begins : BeginsOne test (take at text)
@@ -79,7 +79,7 @@ pub record StopsAt (test : List ℕ → Bool) (text : List ℕ) (at : ℕ) : Typ
 -- the answer to a test: it passed, or where it stopped
 abbrev pub Scans : {A : Type 0} → (List ℕ → Bool) → List ℕ → Result A ℕ → Type 0
 Scans test text (Ok a) = test text ≡ true
-Scans test text (Err at) = StopsAt test text at
+Scans test text (Err at) = GoesWrongAt test text at
 
 -- so many digits stand in the text from a place on
 pub record IsNumberAt (width at : ℕ) (text : List ℕ) : Type 0 where

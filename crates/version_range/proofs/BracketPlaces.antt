@@ -7,7 +7,7 @@ use Rattle.std.proofs.lemmas.Bool.Decides.{nat_tests}
 use Rattle.std.proofs.lemmas.List.Folds.{list_all-append}
 use Rattle.version_range.specs.Cuts.{lead}
 use Rattle.version_range.specs.Grammar.{IsSpaced, IsBracketed, opening, closing}
-use Rattle.version_range.specs.Places.{HasNone, IsFirst, IsNext, IsSecond, IsLast}
+use Rattle.version_range.specs.Places.{HasNone, IsFirst, IsNextPlace, IsSecond, IsLast}
 use Rattle.version_range.specs.Bytes.{is_space, is_comma, is_round, is_filled, is_closing}
 use Rattle.version_range.proofs.Complete.{not_space_opening, not_space_closing}
 use Rattle.version_range.proofs.Plain.{list_all_weaker, list_all_both, no_place, none_passes, spaced_all}
@@ -122,7 +122,7 @@ module _ (text : List ℕ) (a : Bool) (left right : List ℕ) (b : Bool) (s : Is
       ∙ ap (λ (i : ℕ). drop (i + 1) ((s.before ++ opening a ∷ left) ++ 44 ∷ (right ++ closing b ∷ s.behind))) comma_len
       ∙ drop-append-add (s.before ++ opening a ∷ left) (44 ∷ (right ++ closing b ∷ s.behind)) 1
 
-  pub right_filled : IsNext is_filled text (lead text + 1 + length left) (lead text + 1 + length left + 1 + lead right)
+  pub right_filled : IsNextPlace is_filled text (lead text + 1 + length left) (lead text + 1 + length left + 1 + lead right)
   right_filled = ap (position_from is_filled (lead text + 1 + length left + 1)) behind_comma
       ∙ filled_next (lead text + 1 + length left + 1) right (closing b) s.behind (not_space_closing b)
 

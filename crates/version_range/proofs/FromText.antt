@@ -6,8 +6,8 @@ use Rattle.version_range.specs.Bytes.{is_star, is_comma, is_round, is_filled, is
 use Rattle.version_range.specs.Cuts.{trimmed, lead, opened, closed, parted}
 use Rattle.version_range.specs.Form.{bare, broken, double, piece, piece_at, form, core_form, opened_form, closed_form, inner_form, single_unless, double_unless}
 use Rattle.version_range.specs.Grammar.{IsSpaced, IsBracketed, opening, closing}
-use Rattle.version_range.specs.Places.{HasNone, IsFirst, IsNext, IsSecond, IsLast}
-use Rattle.version_range.specs.Refusals.{IsNoVersion, IsNoEnd, IsInBrackets, IsBadSingle, IsPair, IsBadLeft, IsBadRight, IsInverted, IsRefused, HasOneReason}
+use Rattle.version_range.specs.Places.{HasNone, IsFirst, IsNextPlace, IsSecond, IsLast}
+use Rattle.version_range.specs.Refusals.{IsNoSpacedVersion, IsNoEnd, IsInBrackets, IsBadSingle, IsPair, IsBadLeft, IsBadRight, IsInverted, IsRangeRefused, HasOneReason}
 use Rattle.version_range.specs.Steps.{SpellsNone, IsFilledNone, IsRefusedAs}
 use Rattle.version_range.specs.declared.error.RangeErr.{RangeErr}
 use Rattle.version_range.specs.declared.error.RangeErr.TheVariants.{Floating, BadBound, BadByte, Inverted, Memory}
@@ -26,7 +26,7 @@ use Rattle.version_range.proofs.Trimmed.{trimmed_first, unopened_is, opening_ope
 not_both : (b : Bool) → b ≡ false → b ≡ true → ⊥
 not_both b is_no is_yes = cc
 
-spells_none : (text : List ℕ) → IsNoVersion text → SpellsNone (trimmed text)
+spells_none : (text : List ℕ) → IsNoSpacedVersion text → SpellsNone (trimmed text)
 spells_none text none' v spells = none' v (record { core = trimmed text; spaced = spaced-trimmed text; version = spells })
 
 filled_none : (text : List ℕ) (core : List ℕ) → trimmed text ≡ core → IsNoEnd text → IsFilledNone core
@@ -55,7 +55,7 @@ module _ (text : List ℕ) (unstarred' : HasNone is_star text) where
       let found = trimmed_first text b rest is in
       (cored (b ∷ rest) is ∙ ap (opened_form (lead text) (b ∷ rest)) cut, same_place at (lead text) (sym first ∙ found.0))
 
-  from_version : (at : ℕ) (core : List ℕ) → trimmed text ≡ core → IsFirst is_filled text at → is_opening (get_or text at 0) ≡ false → IsNoVersion text → IsRefusedAs (form text) (BadBound at)
+  from_version : (at : ℕ) (core : List ℕ) → trimmed text ≡ core → IsFirst is_filled text at → is_opening (get_or text at 0) ≡ false → IsNoSpacedVersion text → IsRefusedAs (form text) (BadBound at)
   from_version at [] is first unopened none' = absurd (no_blank text at first is)
   from_version at (b ∷ rest) is first unopened none' =
       let cut = bare_cut at b rest is first unopened (opened (b ∷ rest)) refl in
@@ -95,7 +95,7 @@ second_place : (text : List ℕ) (a : Bool) (left right : List ℕ) (b : Bool) (
 second_place text a left right b at s whole second None is =
     let comma = lead text + 1 + length left in
     let same : second.0 ≡ comma = same_place second.0 comma (sym second.1 ∙ first_comma text a left right b s whole) in
-    let next : IsNext is_comma text comma at = subst (λ (n : ℕ). IsNext is_comma text n at) same second.2 in
+    let next : IsNextPlace is_comma text comma at = subst (λ (n : ℕ). IsNextPlace is_comma text n at) same second.2 in
     absurd (no_place_found at (sym (right_whole text a left right b s whole is) ∙ next))
 second_place text a left right b at s whole second (Some k) is =
     ap broken (second_once is_comma text (lead text + 1 + length left + 1 + k) at (second_comma text a left right b s whole k is) second)
@@ -149,7 +149,7 @@ from_right text at r =
     let s = r.pair.brackets.bracketed in
     let comma = lead text + 1 + length r.left in
     let same : r.place.0 ≡ comma = same_place r.place.0 comma (sym r.place.1 ∙ first_comma text r.low_square r.left r.right r.high_square s r.pair.left_whole) in
-    let next : IsNext is_filled text comma at = subst (λ (n : ℕ). IsNext is_filled text n at) same r.place.2 in
+    let next : IsNextPlace is_filled text comma at = subst (λ (n : ℕ). IsNextPlace is_filled text n at) same r.place.2 in
     rw (pair_form text r.low_square r.left r.right r.high_square r.pair)
     (inr (same_place at (comma + 1 + lead r.right) (sym next ∙ right_filled text r.low_square r.left r.right r.high_square s r.pair.left_whole), (r.low, end_read r.left r.low r.low_end), filled_none r.right (trimmed r.right) refl r.none))
 
@@ -164,19 +164,19 @@ from_single text at o =
     rw (alone_is text true o.inner true o.brackets o.alone None (core_none text true o.inner true s is_round o.square))
     (second_once is_filled text at (lead text + 1 + lead o.inner) o.place (second_filled text true o.inner true s), spells_none o.inner o.none)
 
-from_byte : (text : List ℕ) (at : ℕ) → IsRefused text (BadByte at) → form text ≡ broken at
+from_byte : (text : List ℕ) (at : ℕ) → IsRangeRefused text (BadByte at) → form text ≡ broken at
 from_byte text at (inl u) = unclosed_form text u.unstarred at u.first (trimmed text) refl u.filled u.opens u.last u.unclosed
 from_byte text at (inr (inl (a, inner, b, in_brackets, second))) = second_form text a inner b in_brackets at second (parted inner) refl
 from_byte text at (inr (inr (a, inner, b, in_brackets, alone, first))) =
     round_form text a inner b in_brackets at alone first (position_from is_round 0 (opening a ∷ (inner ++ closing b ∷ []))) refl
 
-from_bound : (text : List ℕ) (at : ℕ) → IsRefused text (BadBound at) → IsRefusedAs (form text) (BadBound at)
+from_bound : (text : List ℕ) (at : ℕ) → IsRangeRefused text (BadBound at) → IsRefusedAs (form text) (BadBound at)
 from_bound text at (inl v) = from_version text v.unstarred at (trimmed text) refl v.first v.unopened v.none
 from_bound text at (inr (inl one)) = from_single text at one
 from_bound text at (inr (inr (inl left))) = from_left text at left
 from_bound text at (inr (inr (inr right))) = from_right text at right
 
-from_text : (text : List ℕ) (e : RangeErr) → e ≢ Memory → IsRefused text e → IsRefusedAs (form text) e
+from_text : (text : List ℕ) (e : RangeErr) → e ≢ Memory → IsRangeRefused text e → IsRefusedAs (form text) e
 from_text text Memory other why = absurd (other refl)
 from_text text (Floating at) other why = rw (form_starred text at (sym why)) refl
 from_text text (BadByte at) other why = rw (from_byte text at why) refl

@@ -10,7 +10,7 @@ use Rattle.nuget_version.specs.Precedence.{precedence}
 use Rattle.nuget_version.specs.declared.version.Version.{Version}
 use Rattle.version_range.specs.Cuts.{trimmed}
 use Rattle.version_range.specs.Grammar.{SpellsVersion}
-use Rattle.version_range.specs.Refusals.{IsNoVersion, IsNoEnd, WorkedRefusals}
+use Rattle.version_range.specs.Refusals.{IsNoSpacedVersion, IsNoEnd, WorkedRefusals}
 use Rattle.version_range.proofs.Complete.{version_trimmed}
 
 -- ---- two versions, and texts of none
@@ -83,7 +83,7 @@ numbers_digit ((b ∷ n) ∷ more) rest some held =
     let number = and_parts (is_number (b ∷ n)) (list_all is_number more) held in
     (b, _, refl, (and_parts (is_ascii_digit b) (list_all is_ascii_digit n) number.0).0)
 
-no_letter : (text : List ℕ) (c : ℕ) → trimmed text ≡ c ∷ [] → is_ascii_digit c ≡ false → IsNoVersion text
+no_letter : (text : List ℕ) (c : ℕ) → trimmed text ≡ c ∷ [] → is_ascii_digit c ≡ false → IsNoSpacedVersion text
 no_letter text c is other v s =
     let p = s.version.pieces in
     let (b, others, first, digit) = numbers_digit p.numbers (marked 45 p.labels ++ marked 43 p.meta) s.version.made.are.some s.version.made.are.digits in
@@ -92,7 +92,7 @@ no_letter text c is other v s =
     let digit' : is_ascii_digit c ≡ true = ap is_ascii_digit here ∙ digit in
     cc
 
-no_nothing : IsNoVersion []
+no_nothing : IsNoSpacedVersion []
 unfolding trimmed
 no_nothing v s =
     let p = s.version.pieces in
@@ -100,11 +100,11 @@ no_nothing v s =
     let same : [] ≡ b ∷ others = version_trimmed [] v s ∙ s.version.made.spelled ∙ first in
     cc
 
-no_a : IsNoVersion (codes "a")
+no_a : IsNoSpacedVersion (codes "a")
 unfolding trimmed
 no_a = no_letter (codes "a") 97 refl refl
 
-no_b : IsNoVersion (codes " b")
+no_b : IsNoSpacedVersion (codes " b")
 unfolding trimmed
 no_b = no_letter (codes " b") 98 refl refl
 

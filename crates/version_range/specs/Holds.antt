@@ -26,5 +26,5 @@ abbrev pub Holds : VersionRange → Version → Type 0
 Holds r v = IsAboveLow r.low r.low_in v × IsBelowHigh r.high r.high_in v
 
 -- one of its ends is a SemVer 2.0.0 version
-abbrev pub is_semver2 : VersionRange → Bool
-is_semver2 r = option_map_or version.is_semver2 r.low false || option_map_or version.is_semver2 r.high false
+abbrev pub is_semver2_range : VersionRange → Bool
+is_semver2_range r = option_map_or version.is_semver2 r.low false || option_map_or version.is_semver2 r.high false

@@ -15,12 +15,12 @@ abbrev pub IsFirst : (ℕ → Bool) → List ℕ → ℕ → Type 0
 IsFirst test text at = position_from test 0 text ≡ Some at
 
 -- the first byte that passes behind the one place stands at the other
-abbrev pub IsNext : (ℕ → Bool) → List ℕ → ℕ → ℕ → Type 0
-IsNext test text before at = position_from test (before + 1) (drop (before + 1) text) ≡ Some at
+abbrev pub IsNextPlace : (ℕ → Bool) → List ℕ → ℕ → ℕ → Type 0
+IsNextPlace test text before at = position_from test (before + 1) (drop (before + 1) text) ≡ Some at
 
 -- the second byte that passes stands at this place
 abbrev pub IsSecond : (ℕ → Bool) → List ℕ → ℕ → Type 0
-IsSecond test text at = (first : ℕ) × IsFirst test text first × IsNext test text first at
+IsSecond test text at = (first : ℕ) × IsFirst test text first × IsNextPlace test text first at
 
 -- the last byte that passes stands at this place
 abbrev pub IsLast : (ℕ → Bool) → List ℕ → ℕ → Type 0

@@ -5,14 +5,14 @@ use Rattle.nuget_version.specs.declared.version.Version.{Version}
 use Rattle.version_range.specs.Bytes.{is_star, is_comma, is_round, is_filled, is_opening, is_closing}
 use Rattle.version_range.specs.Grammar.{IsBracketed, SpellsVersion, SpellsEnd, SpellsRange}
 use Rattle.version_range.specs.Order.{are_ordered}
-use Rattle.version_range.specs.Places.{HasNone, IsFirst, IsNext, IsSecond, IsLast}
+use Rattle.version_range.specs.Places.{HasNone, IsFirst, IsNextPlace, IsSecond, IsLast}
 use Rattle.version_range.specs.declared.error.RangeErr.{RangeErr}
 use Rattle.version_range.specs.declared.error.RangeErr.TheVariants.{Floating, BadBound, BadByte, Inverted, Memory}
 use Rattle.version_range.specs.declared.range.VersionRange.{VersionRange}
 
 -- no version with spaces around it
-abbrev pub IsNoVersion : List ℕ → Type 0
-IsNoVersion text = (v : Version) → ¬ SpellsVersion text v
+abbrev pub IsNoSpacedVersion : List ℕ → Type 0
+IsNoSpacedVersion text = (v : Version) → ¬ SpellsVersion text v
 
 -- no version with spaces around it, and not absent
 abbrev pub IsNoEnd : List ℕ → Type 0
@@ -24,7 +24,7 @@ pub record IsBadVersion (text : List ℕ) (at : ℕ) : Type 0 where
   pub unstarred : HasNone is_star text
   pub first : IsFirst is_filled text at
   pub unopened : IsFalse (is_opening (slice_index text at))
-  pub none : IsNoVersion text
+  pub none : IsNoSpacedVersion text
 
 -- a bracket at the start and none at the end: the last byte that isn't a space stands here and closes none
 pub record IsUnclosed (text : List ℕ) (at : ℕ) : Type 0 where
@@ -57,7 +57,7 @@ pub record IsBadSingle (text : List ℕ) (at : ℕ) : Type 0 where
   pub brackets : IsInBrackets text true inner true
   pub alone : HasNone is_comma text
   pub square : HasNone is_round text
-  pub none : IsNoVersion inner
+  pub none : IsNoSpacedVersion inner
   pub place : IsSecond is_filled text at
 
 -- brackets round two pieces, with the only comma between them; the points below are for these texts
@@ -73,7 +73,7 @@ IsBadLeft text at =
 
 -- the first byte that isn't a space behind the comma stands here
 abbrev pub IsBehindComma : List ℕ → ℕ → Type 0
-IsBehindComma text at = (comma : ℕ) × IsFirst is_comma text comma × IsNext is_filled text comma at
+IsBehindComma text at = (comma : ℕ) × IsFirst is_comma text comma × IsNextPlace is_filled text comma at
 
 -- the left end is one, the right end is none, and its first byte that isn't a space stands here
 pub record IsBadRight (text : List ℕ) (at : ℕ) : Type 0 where
@@ -101,22 +101,22 @@ pub record IsInverted (text : List ℕ) : Type 0 where
   pub inverted : IsFalse (are_ordered low (low_square && is_some low) high (high_square && is_some high))
 
 -- when each refusal comes; Memory may stand in place of each answer
-abbrev pub IsRefused : List ℕ → RangeErr → Type 0
-IsRefused text (Floating at) = IsFirst is_star text at
-IsRefused text (BadByte at) = IsUnclosed text at ⊎ (IsSecondComma text at ⊎ IsFirstRound text at)
-IsRefused text (BadBound at) = IsBadVersion text at ⊎ (IsBadSingle text at ⊎ (IsBadLeft text at ⊎ IsBadRight text at))
-IsRefused text Inverted = IsInverted text
-IsRefused text Memory = ⊤
+abbrev pub IsRangeRefused : List ℕ → RangeErr → Type 0
+IsRangeRefused text (Floating at) = IsFirst is_star text at
+IsRangeRefused text (BadByte at) = IsUnclosed text at ⊎ (IsSecondComma text at ⊎ IsFirstRound text at)
+IsRangeRefused text (BadBound at) = IsBadVersion text at ⊎ (IsBadSingle text at ⊎ (IsBadLeft text at ⊎ IsBadRight text at))
+IsRangeRefused text Inverted = IsInverted text
+IsRangeRefused text Memory = ⊤
 
 -- beside Memory a text has one refusal at most, and none where it spells a range
 abbrev pub HasOneReason : Type 0
 HasOneReason =
-    (text : List ℕ) (e : RangeErr) → e ≢ Memory → IsRefused text e
-    → ((f : RangeErr) → f ≢ Memory → IsRefused text f → f ≡ e) × ((r : VersionRange) → SpellsRange text r → ⊥)
+    (text : List ℕ) (e : RangeErr) → e ≢ Memory → IsRangeRefused text e
+    → ((f : RangeErr) → f ≢ Memory → IsRangeRefused text f → f ≡ e) × ((r : VersionRange) → SpellsRange text r → ⊥)
 
 -- worked rows, one a refusal
 abbrev pub WorkedRefusals : Type 0
 WorkedRefusals =
-    IsRefused (codes "1.*") (Floating 2) × IsRefused (codes "a") (BadBound 0) × IsRefused (codes "[1.0") (BadByte 3) × IsRefused (codes "[,,]") (BadByte 2)
-    × IsRefused (codes "(1.0)") (BadByte 0) × IsRefused (codes "[]") (BadBound 1) × IsRefused (codes "[a,2.0]") (BadBound 1)
-    × IsRefused (codes "[1.0, b]") (BadBound 6) × IsRefused (codes "[2.0,1.0]") Inverted
+    IsRangeRefused (codes "1.*") (Floating 2) × IsRangeRefused (codes "a") (BadBound 0) × IsRangeRefused (codes "[1.0") (BadByte 3) × IsRangeRefused (codes "[,,]") (BadByte 2)
+    × IsRangeRefused (codes "(1.0)") (BadByte 0) × IsRangeRefused (codes "[]") (BadBound 1) × IsRangeRefused (codes "[a,2.0]") (BadBound 1)
+    × IsRangeRefused (codes "[1.0, b]") (BadBound 6) × IsRangeRefused (codes "[2.0,1.0]") Inverted

@@ -28,9 +28,9 @@ impl VersionRange {
     ghost use Rattle.std.specs.Prelude.{◌≡◌, ◌↔◌, IfOk, IfErr};
     ghost use Rattle.version_range.specs.Form.{form};
     ghost use Rattle.version_range.specs.Grammar.{SpellsRange};
-    ghost use Rattle.version_range.specs.Holds.{Holds, is_semver2};
+    ghost use Rattle.version_range.specs.Holds.{Holds, is_semver2_range};
     ghost use Rattle.version_range.specs.Printed.{range_text};
-    ghost use Rattle.version_range.specs.Refusals.{IsRefused};
+    ghost use Rattle.version_range.specs.Refusals.{IsRangeRefused};
 
     /// Reads a range. Spaces may stand at both ends, inside the brackets and around the comma.
     /// Nothing but spaces, and `(,)`, is any version; a version alone is an included lower end;
@@ -38,7 +38,7 @@ impl VersionRange {
     pub fn parse(alloc: Global, text: &str) -> Result<Self, RangeErr>
         ensures ok { IfOk result (SpellsRange text.now) }
         ensures accepts { (r : VersionRange) → SpellsRange text.now r → IfErr result (λ e. e ≡ RangeErr.Memory) }
-        ensures refused { IfErr result (IsRefused text.now) }
+        ensures refused { IfErr result (IsRangeRefused text.now) }
     {
         read_range(alloc, text)
     }
@@ -52,7 +52,7 @@ impl VersionRange {
 
     /// Whether an end has a dot in its labels, or has metadata.
     pub fn is_semver2(&self) -> bool
-        ensures { result ≡ is_semver2 self.now }
+        ensures { result ≡ is_semver2_range self.now }
     {
         self.low.as_ref().map_or(false, Version::is_semver2)
             || self.high.as_ref().map_or(false, Version::is_semver2)

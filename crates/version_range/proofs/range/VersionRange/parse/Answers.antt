@@ -1,7 +1,7 @@
 use Rattle.std.proofs.lemmas.Result.{IfOk-weaker, IfErr-weaker, MatchResult-weaker}
 use Rattle.version_range.specs.Form.{form}
 use Rattle.version_range.specs.Grammar.{SpellsRange}
-use Rattle.version_range.specs.Refusals.{IsRefused}
+use Rattle.version_range.specs.Refusals.{IsRangeRefused}
 use Rattle.version_range.specs.Steps.{IsReadAs, IsRefusedAs}
 use Rattle.version_range.proofs.Sound.{sound}
 use Rattle.version_range.proofs.Complete.{only_memory}
@@ -18,4 +18,4 @@ returns-clause-accepts c r spells =
 
 pub returns-clause-refused : goal.returns-clause-refused
 returns-clause-refused c =
-    IfErr-weaker c.read_range.result (IsRefusedAs (form c.args.text.now)) (IsRefused c.args.text.now) (λ e bad. to_text c.args.text.now e bad) c.read_range.ensures.refused
+    IfErr-weaker c.read_range.result (IsRefusedAs (form c.args.text.now)) (IsRangeRefused c.args.text.now) (λ e bad. to_text c.args.text.now e bad) c.read_range.ensures.refused
