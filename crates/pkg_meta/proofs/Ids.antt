@@ -9,7 +9,7 @@ use Rattle.pkg_meta.specs.Publisher.{IsGroupOf}
 use Rattle.pkg_meta.specs.Refusals.{IsFirstRefused, IsRefusedGroup, IsRefusedObject, bad_dependency}
 use Rattle.pkg_meta.specs.Values.{items_at}
 use Rattle.pkg_meta.specs.declared.error.MetaErr.{MetaErr}
-use Rattle.pkg_meta.specs.declared.reading.Identity.{Identity}
+use Rattle.pkg_meta.specs.declared.meta.Identity.{Identity}
 use Rattle.pkg_meta.proofs.Matches.{some_holds}
 
 pub short_id : (o : Option PackageId) (id : PackageId) (text want : List ℕ) → o ≡ Some id → IfSome o (λ i. i.text ≡ text) → text ≡ want → IsShortId want

@@ -3,7 +3,7 @@ use Rattle.std.specs.Prelude.{◌≡◌, codes}
 use Rattle.serde_json.specs.Data.{Data}
 use Rattle.nuget_version.specs.Grammar.{Spells}
 use Rattle.pkg_meta.specs.Values.{text_or_empty}
-use Rattle.pkg_meta.specs.declared.reading.Identity.{Identity}
+use Rattle.pkg_meta.specs.declared.meta.Identity.{Identity}
 
 -- they are those of the object
 pub record IsIdentityOf (d : Data) (i : Identity) : Type 0 where

@@ -5,6 +5,7 @@ pub mod Items
 pub mod Kinds
 pub mod Lawful
 pub mod Laws
+pub mod Made
 pub mod Members
 pub mod Publisher
 pub mod Refusals

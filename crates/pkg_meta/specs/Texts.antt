@@ -2,33 +2,52 @@
 use Rattle.std.specs.Prelude.{codes}
 use Rattle.serde_json.specs.Data.{Data}
 use Rattle.pkg_meta.specs.Values.{text_at}
+use Rattle.pkg_meta.specs.declared.meta.Links.{Links}
 use Rattle.pkg_meta.specs.declared.meta.Meta.{Meta}
+use Rattle.pkg_meta.specs.declared.meta.Release.{Release}
 use Rattle.pkg_meta.specs.declared.meta.Texts.{Texts}
+use Rattle.pkg_meta.specs.declared.meta.Words.{Words}
+
+-- where the metadata say that the icon, the license and the project are
+abbrev pub links_of : Meta → Links
+links_of m = record { icon_url = m.icon_url; license_url = m.license_url; project_url = m.project_url }
+
+-- who made the package, and what it is
+abbrev pub words_of : Meta → Words
+words_of m = record { authors = m.authors; description = m.description; summary = m.summary; title = m.title }
+
+-- what concerns this version
+abbrev pub release_of : Meta → Release
+release_of m = record { min_client = m.min_client; release_notes = m.release_notes }
 
 -- those of the metadata
 abbrev pub texts_of : Meta → Texts
-texts_of m = record {
-  authors = m.authors;
-  description = m.description;
-  icon_url = m.icon_url;
-  license_url = m.license_url;
-  min_client = m.min_client;
-  project_url = m.project_url;
-  release_notes = m.release_notes;
-  summary = m.summary;
-  title = m.title;
-}
+texts_of m = record { links = links_of m; words = words_of m; release = release_of m }
 
--- those that an object says, each under its name
-abbrev pub texts_at : Data → Texts
-texts_at d = record {
-  authors = text_at (codes "authors") d;
-  description = text_at (codes "description") d;
+-- the same of an object, each under its name
+abbrev pub links_at : Data → Links
+links_at d = record {
   icon_url = text_at (codes "iconUrl") d;
   license_url = text_at (codes "licenseUrl") d;
-  min_client = text_at (codes "minClientVersion") d;
   project_url = text_at (codes "projectUrl") d;
-  release_notes = text_at (codes "releaseNotes") d;
+}
+
+-- its words
+abbrev pub words_at : Data → Words
+words_at d = record {
+  authors = text_at (codes "authors") d;
+  description = text_at (codes "description") d;
   summary = text_at (codes "summary") d;
   title = text_at (codes "title") d;
 }
+
+-- what it says of the version
+abbrev pub release_at : Data → Release
+release_at d = record {
+  min_client = text_at (codes "minClientVersion") d;
+  release_notes = text_at (codes "releaseNotes") d;
+}
+
+-- those that an object says
+abbrev pub texts_at : Data → Texts
+texts_at d = record { links = links_at d; words = words_at d; release = release_at d }

@@ -87,8 +87,8 @@ impl Details {
     pub fn copy(&self, alloc: Global) -> Result<Self, NoMemory>
         ensures { IfOk result (λ d. d ≡ self.now) }
     {
-        let meta = self.meta.copy(alloc)?;
         let hash = self.hash.copy(alloc)?;
+        let meta = self.meta.copy(alloc)?;
         Ok(Details {
             meta,
             listed: self.listed,

@@ -1,6 +1,7 @@
 // What a publisher says of a package.
 ghost use Rattle.std.specs.Prelude.{◌≡◌, IfOk};
-ghost use Rattle.pkg_meta.specs.Texts.{texts_of};
+ghost use Rattle.pkg_meta.specs.Made.{identity_of, meta_of};
+ghost use Rattle.pkg_meta.specs.Texts.{links_of, release_of, texts_of, words_of};
 
 use crate::copies::{copy_groups, copy_text_if, copy_texts};
 use crate::dependency::DepGroup;
@@ -31,62 +32,143 @@ pub struct Meta {
     pub groups: Many<DepGroup>,
 }
 
-// The texts that metadata may leave out.
+// The id and the version of a package, with the version's text.
 #[derive(Drop)]
-pub(crate) struct Texts {
-    pub authors: Option<Text>,
-    pub description: Option<Text>,
+pub(crate) struct Identity {
+    pub id: PackageId,
+    pub version: Version,
+    pub verbatim: Text,
+}
+
+// Where a package's icon, license and project are.
+#[derive(Drop)]
+pub(crate) struct Links {
     pub icon_url: Option<Text>,
     pub license_url: Option<Text>,
-    pub min_client: Option<Text>,
     pub project_url: Option<Text>,
-    pub release_notes: Option<Text>,
+}
+
+// Who made a package, and what it is.
+#[derive(Drop)]
+pub(crate) struct Words {
+    pub authors: Option<Text>,
+    pub description: Option<Text>,
     pub summary: Option<Text>,
     pub title: Option<Text>,
 }
 
+// What concerns one version of a package.
+#[derive(Drop)]
+pub(crate) struct Release {
+    pub min_client: Option<Text>,
+    pub release_notes: Option<Text>,
+}
+
+// The texts that metadata may leave out.
+#[derive(Drop)]
+pub(crate) struct Texts {
+    pub links: Links,
+    pub words: Words,
+    pub release: Release,
+}
+
 impl Meta {
+    pub(crate) fn made_of(
+        identity: Identity,
+        texts: Texts,
+        require_license: Option<bool>,
+        tags: Many<Text>,
+        groups: Many<DepGroup>,
+    ) -> Self
+        ensures { result ≡ meta_of identity texts require_license tags groups }
+    {
+        let Texts {
+            links,
+            words,
+            release,
+        } = texts;
+        Meta {
+            id: identity.id,
+            version: identity.version,
+            verbatim: identity.verbatim,
+            authors: words.authors,
+            description: words.description,
+            icon_url: links.icon_url,
+            license_url: links.license_url,
+            min_client: release.min_client,
+            project_url: links.project_url,
+            release_notes: release.release_notes,
+            summary: words.summary,
+            title: words.title,
+            require_license,
+            tags,
+            groups,
+        }
+    }
+
     pub fn copy(&self, alloc: Global) -> Result<Self, NoMemory>
         ensures { IfOk result (λ m. m ≡ self.now) }
     {
-        let texts = self.copy_texts(alloc)?;
-        let id = self.id.copy(alloc)?;
-        let version = self.version.copy(alloc)?;
-        let verbatim = self.verbatim.copy(alloc)?;
         let tags = copy_texts(alloc, &self.tags)?;
         let groups = copy_groups(alloc, &self.groups)?;
-        Ok(Meta {
+        let identity = self.copy_identity(alloc)?;
+        let texts = self.copy_texts(alloc)?;
+        Ok(Meta::made_of(identity, texts, self.require_license, tags, groups))
+    }
+
+    fn copy_identity(&self, alloc: Global) -> Result<Identity, NoMemory>
+        ensures { IfOk result (λ i. i ≡ identity_of self.now) }
+    {
+        let verbatim = self.verbatim.copy(alloc)?;
+        let id = self.id.copy(alloc)?;
+        let version = self.version.copy(alloc)?;
+        Ok(Identity {
             id,
             version,
             verbatim,
-            authors: texts.authors,
-            description: texts.description,
-            icon_url: texts.icon_url,
-            license_url: texts.license_url,
-            min_client: texts.min_client,
-            project_url: texts.project_url,
-            release_notes: texts.release_notes,
-            summary: texts.summary,
-            title: texts.title,
-            require_license: self.require_license,
-            tags,
-            groups,
         })
     }
 
     fn copy_texts(&self, alloc: Global) -> Result<Texts, NoMemory>
         ensures { IfOk result (λ t. t ≡ texts_of self.now) }
     {
+        let links = self.copy_links(alloc)?;
+        let words = self.copy_words(alloc)?;
+        let release = self.copy_release(alloc)?;
         Ok(Texts {
-            authors: copy_text_if(alloc, &self.authors)?,
-            description: copy_text_if(alloc, &self.description)?,
+            links,
+            words,
+            release,
+        })
+    }
+
+    fn copy_links(&self, alloc: Global) -> Result<Links, NoMemory>
+        ensures { IfOk result (λ t. t ≡ links_of self.now) }
+    {
+        Ok(Links {
             icon_url: copy_text_if(alloc, &self.icon_url)?,
             license_url: copy_text_if(alloc, &self.license_url)?,
-            min_client: copy_text_if(alloc, &self.min_client)?,
             project_url: copy_text_if(alloc, &self.project_url)?,
-            release_notes: copy_text_if(alloc, &self.release_notes)?,
+        })
+    }
+
+    fn copy_words(&self, alloc: Global) -> Result<Words, NoMemory>
+        ensures { IfOk result (λ t. t ≡ words_of self.now) }
+    {
+        Ok(Words {
+            authors: copy_text_if(alloc, &self.authors)?,
+            description: copy_text_if(alloc, &self.description)?,
             summary: copy_text_if(alloc, &self.summary)?,
             title: copy_text_if(alloc, &self.title)?,
+        })
+    }
+
+    fn copy_release(&self, alloc: Global) -> Result<Release, NoMemory>
+        ensures { IfOk result (λ t. t ≡ release_of self.now) }
+    {
+        Ok(Release {
+            min_client: copy_text_if(alloc, &self.min_client)?,
+            release_notes: copy_text_if(alloc, &self.release_notes)?,
         })
     }
 }

@@ -10,12 +10,12 @@ ghost use Rattle.pkg_meta.specs.Publisher.{IsDepOf, IsGroupOf, IsMetaOf, IsMetaT
 ghost use Rattle.pkg_meta.specs.Refusals.{dep_path, IsFirstRefused, IsNoRange, IsRefusedMeta, IsRefusedDep, IsRefusedGroup, IsRefusedObject};
 ghost use Rattle.pkg_meta.specs.Identity.{IsIdentityOf};
 ghost use Rattle.pkg_meta.specs.Values.{text_at};
-ghost use Rattle.pkg_meta.specs.Texts.{texts_at};
+ghost use Rattle.pkg_meta.specs.Texts.{links_at, release_at, texts_at, words_at};
 
 use crate::dependency::{Dep, DepGroup};
 use crate::error::MetaErr;
 use crate::kinds::misfit;
-use crate::meta::{Meta, Texts};
+use crate::meta::{Identity, Links, Meta, Release, Texts, Words};
 use crate::values::{copy_text_in, copy_texts_of, flag_in, items_in, text_in, text_or_empty};
 use json_law::value_of;
 use nuget_version::{Many, NoMemory, Text, Version};
@@ -125,42 +125,61 @@ fn read_groups(alloc: Global, values: &[Value]) -> Result<Many<DepGroup>, MetaEr
     Ok(groups)
 }
 
-fn read_texts(alloc: Global, value: &Value) -> Result<Texts, NoMemory>
-    ensures { IfOk result (λ t. t ≡ texts_at (view value.now)) }
+fn read_links(alloc: Global, value: &Value) -> Result<Links, NoMemory>
+    ensures { IfOk result (λ t. t ≡ links_at (view value.now)) }
 {
-    Ok(Texts {
-        authors: copy_text_in(alloc, value, "authors")?,
-        description: copy_text_in(alloc, value, "description")?,
+    Ok(Links {
         icon_url: copy_text_in(alloc, value, "iconUrl")?,
         license_url: copy_text_in(alloc, value, "licenseUrl")?,
-        min_client: copy_text_in(alloc, value, "minClientVersion")?,
         project_url: copy_text_in(alloc, value, "projectUrl")?,
-        release_notes: copy_text_in(alloc, value, "releaseNotes")?,
+    })
+}
+
+fn read_words(alloc: Global, value: &Value) -> Result<Words, NoMemory>
+    ensures { IfOk result (λ t. t ≡ words_at (view value.now)) }
+{
+    Ok(Words {
+        authors: copy_text_in(alloc, value, "authors")?,
+        description: copy_text_in(alloc, value, "description")?,
         summary: copy_text_in(alloc, value, "summary")?,
         title: copy_text_in(alloc, value, "title")?,
     })
 }
 
-// The id and the version of an object, with the version's text.
-#[derive(Drop)]
-struct Identity {
-    id: PackageId,
-    version: Version,
-    verbatim: Text,
+fn read_release(alloc: Global, value: &Value) -> Result<Release, NoMemory>
+    ensures { IfOk result (λ t. t ≡ release_at (view value.now)) }
+{
+    Ok(Release {
+        min_client: copy_text_in(alloc, value, "minClientVersion")?,
+        release_notes: copy_text_in(alloc, value, "releaseNotes")?,
+    })
+}
+
+fn read_texts(alloc: Global, value: &Value) -> Result<Texts, NoMemory>
+    ensures { IfOk result (λ t. t ≡ texts_at (view value.now)) }
+{
+    let links = read_links(alloc, value)?;
+    let words = read_words(alloc, value)?;
+    let release = read_release(alloc, value)?;
+    Ok(Texts {
+        links,
+        words,
+        release,
+    })
 }
 
 fn read_identity(alloc: Global, value: &Value) -> Result<Identity, MetaErr>
     ensures ok { IfOk result (IsIdentityOf (view value.now)) }
     ensures refused { IfErr result (λ e. e ≢ MetaErr.Memory → IsRefusedObject (view value.now) e) }
 {
+    let text = text_or_empty(value, "version");
+    let verbatim = Text::copy_of(alloc, text)?;
     let Some(id) = PackageId::read(alloc, text_or_empty(value, "id"))? else {
         return Err(MetaErr::BadId(Text::copy_of(alloc, "id")?));
     };
-    let text = text_or_empty(value, "version");
     let Some(version) = Version::read(alloc, text)? else {
         return Err(MetaErr::BadVersion);
     };
-    let verbatim = Text::copy_of(alloc, text)?;
     Ok(Identity {
         id,
         version,
@@ -177,23 +196,8 @@ fn read_object(alloc: Global, value: &Value) -> Result<Meta, MetaErr>
     let groups = read_groups(alloc, items_in(value, "dependencyGroups"))?;
     let tags = copy_texts_of(alloc, items_in(value, "tags"))?;
     let texts = read_texts(alloc, value)?;
-    Ok(Meta {
-        id: identity.id,
-        version: identity.version,
-        verbatim: identity.verbatim,
-        authors: texts.authors,
-        description: texts.description,
-        icon_url: texts.icon_url,
-        license_url: texts.license_url,
-        min_client: texts.min_client,
-        project_url: texts.project_url,
-        release_notes: texts.release_notes,
-        summary: texts.summary,
-        title: texts.title,
-        require_license: flag_in(value, "requireLicenseAcceptance"),
-        tags,
-        groups,
-    })
+    let require_license = flag_in(value, "requireLicenseAcceptance");
+    Ok(Meta::made_of(identity, texts, require_license, tags, groups))
 }
 
 // The object of a JSON text, where the bytes are one.

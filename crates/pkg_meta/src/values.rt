@@ -20,10 +20,7 @@ pub fn text_in<'a>(value: &'a Value, name: &str) -> Option<&'a str>
 pub(crate) fn text_or_empty<'a>(value: &'a Value, name: &str) -> &'a str
     ensures { result.now ≡ text_or_empty name.now (view value.now) }
 {
-    match text_in(value, name) {
-        Some(text) => text,
-        None => "",
-    }
+    text_in(value, name).unwrap_or("")
 }
 
 /// The truth value under a name, where there is one.
