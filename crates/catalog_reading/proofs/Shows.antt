@@ -8,6 +8,7 @@ use Rattle.nuget_version.specs.Printed.{full_text}
 use Rattle.ticks.specs.Stamp.{stamp_text}
 use Rattle.pkg_meta.specs.Members.{Slot, present, slot_value}
 use Rattle.version_range.specs.Printed.{range_text}
+use Rattle.pkg_meta.specs.Texts.{texts_at, texts_of}
 use Rattle.pkg_meta.specs.Trees.{array_if, dep_tree, details_table, details_tree, group_table, group_tree, text_if}
 use Rattle.pkg_meta.specs.Values.{flag_at, items_at, list_of, text_at}
 use Rattle.pkg_meta.specs.declared.dependency.Dep.{Dep}
@@ -18,7 +19,7 @@ use Rattle.pkg_meta.proofs.Lists.{list_of-items_of}
 use Rattle.catalog_doc.specs.Documents.{details_leaf_table, leaf_data}
 use Rattle.catalog_doc.specs.Names.{place_name}
 use Rattle.catalog_doc.proofs.Slotted.{table_get}
-use Rattle.catalog_reading.specs.Shown.{number_under, ShowsDetails, words_at}
+use Rattle.catalog_reading.specs.Shown.{number_under, ShowsDetails}
 
 module _ (base : List ℕ) (n p stamp : ℕ) (d : Details) where
   abbrev leaf_table : List Slot
@@ -247,28 +248,22 @@ module _ (d : Details) (leaf : Data) (shows : ShowsDetails d leaf) where
   pub shows_groups : items_at (codes "dependencyGroups") leaf ≡ map group_tree d.meta.groups
   shows_groups = items_found (codes "dependencyGroups") leaf (map group_tree d.meta.groups) (shows.1.1.0)
 
-  pub shows_words : words_at leaf ≡ record {
-    authors = d.meta.authors;
-    description = d.meta.description;
-    icon_url = d.meta.icon_url;
-    license_url = d.meta.license_url;
-    min_client = d.meta.min_client;
-    project_url = d.meta.project_url;
-    release_notes = d.meta.release_notes;
-    summary = d.meta.summary;
-    title = d.meta.title;
-  }
-  shows_words =
-      let authors_is = text_found (codes "authors") leaf d.meta.authors (shows.0) in
-      let description_is = text_found (codes "description") leaf d.meta.description (shows.1.1.1.0) in
+  pub shows_texts : texts_at leaf ≡ texts_of d.meta
+  shows_texts =
       let icon_url_is = text_found (codes "iconUrl") leaf d.meta.icon_url (shows.1.1.1.1.0) in
       let license_url_is = text_found (codes "licenseUrl") leaf d.meta.license_url (shows.1.1.1.1.1.1.1.0) in
-      let min_client_is = text_found (codes "minClientVersion") leaf d.meta.min_client (shows.1.1.1.1.1.1.1.1.1.0) in
       let project_url_is = text_found (codes "projectUrl") leaf d.meta.project_url (shows.1.1.1.1.1.1.1.1.1.1.1.1.1.1.0) in
-      let release_notes_is = text_found (codes "releaseNotes") leaf d.meta.release_notes (shows.1.1.1.1.1.1.1.1.1.1.1.1.1.1.1.1.0) in
+      let authors_is = text_found (codes "authors") leaf d.meta.authors (shows.0) in
+      let description_is = text_found (codes "description") leaf d.meta.description (shows.1.1.1.0) in
       let summary_is = text_found (codes "summary") leaf d.meta.summary (shows.1.1.1.1.1.1.1.1.1.1.1.1.1.1.1.1.1.1.0) in
       let title_is = text_found (codes "title") leaf d.meta.title (shows.1.1.1.1.1.1.1.1.1.1.1.1.1.1.1.1.1.1.1.1.0) in
-      λ i. record { authors = authors_is i; description = description_is i; icon_url = icon_url_is i; license_url = license_url_is i; min_client = min_client_is i; project_url = project_url_is i; release_notes = release_notes_is i; summary = summary_is i; title = title_is i }
+      let min_client_is = text_found (codes "minClientVersion") leaf d.meta.min_client (shows.1.1.1.1.1.1.1.1.1.0) in
+      let release_notes_is = text_found (codes "releaseNotes") leaf d.meta.release_notes (shows.1.1.1.1.1.1.1.1.1.1.1.1.1.1.1.1.0) in
+      λ i. record {
+        links = record { icon_url = icon_url_is i; license_url = license_url_is i; project_url = project_url_is i };
+        words = record { authors = authors_is i; description = description_is i; summary = summary_is i; title = title_is i };
+        release = record { min_client = min_client_is i; release_notes = release_notes_is i };
+      }
 
 -- what a group and a dependency show
 pub group_framework : (g : DepGroup) (x : Data) → x ≡ group_tree g → text_at (codes "targetFramework") x ≡ g.framework

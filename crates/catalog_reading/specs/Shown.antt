@@ -4,9 +4,7 @@ use Rattle.serde_json.specs.Data.{Data}
 use Rattle.serde_json.specs.Find.{as_number, as_u64, get}
 use Rattle.pkg_meta.specs.Members.{Slot}
 use Rattle.pkg_meta.specs.Trees.{details_table}
-use Rattle.pkg_meta.specs.Values.{text_at}
 use Rattle.pkg_meta.specs.declared.item.Details.{Details}
-use Rattle.catalog_reading.specs.declared.details.Words.{Words}
 
 -- its members at the keys of these slots are the slots' values
 abbrev pub AreShown : Data → List Slot → Type 0
@@ -20,20 +18,6 @@ ShowsDetails d leaf = AreShown leaf (details_table d)
 -- the whole number under a name, where there is one
 abbrev pub number_under : List ℕ → Data → Option ℕ
 number_under name leaf = option_and_then (λ (d : Data). option_and_then as_u64 (as_number d)) (get name leaf)
-
--- the texts that details may leave out
-abbrev pub words_at : Data → Words
-words_at leaf = record {
-  authors = text_at (codes "authors") leaf;
-  description = text_at (codes "description") leaf;
-  icon_url = text_at (codes "iconUrl") leaf;
-  license_url = text_at (codes "licenseUrl") leaf;
-  min_client = text_at (codes "minClientVersion") leaf;
-  project_url = text_at (codes "projectUrl") leaf;
-  release_notes = text_at (codes "releaseNotes") leaf;
-  summary = text_at (codes "summary") leaf;
-  title = text_at (codes "title") leaf;
-}
 
 -- the `@type` of a leaf
 abbrev pub leaf_kind : Bool → List ℕ

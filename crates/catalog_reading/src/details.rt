@@ -2,16 +2,17 @@
 // something else may be read.
 ghost use Rattle.std.specs.Prelude.{◌≡◌, ◌<◌, ◌^◌, ℕ, List, Some, IfOk, MatchOption, decimal};
 ghost use Rattle.serde_json.specs.View.{view};
+ghost use Rattle.pkg_meta.specs.Made.{identity_of};
 ghost use Rattle.pkg_meta.specs.Trees.{details_tree};
 ghost use Rattle.pkg_meta.specs.declared.item.Details.{Details};
 ghost use Rattle.catalog_doc.specs.Reading.{IsDetailsValue};
-ghost use Rattle.catalog_reading.specs.Shown.{number_under, ShowsDetails, words_at};
+ghost use Rattle.catalog_reading.specs.Shown.{number_under, ShowsDetails};
 
 use crate::dependencies::groups_of;
 use crate::fields::{Origin, moment_of, origin_of};
 use pkg_meta::{
-    DepGroup, Details, Many, Meta, NoMemory, PackageId, Text, Ticks, Version, copy_text_in,
-    copy_texts_of, flag_in, items_in, text_in,
+    DepGroup, Details, Identity, Many, Meta, NoMemory, PackageId, Text, Ticks, Version,
+    copy_text_in, copy_texts_of, flag_in, items_in, read_texts, text_in,
 };
 use serde_json::Value;
 use std::alloc::Global;
@@ -125,84 +126,38 @@ fn require_license_in(value: &Value) -> Option<bool>
     flag_in(value, "requireLicenseAcceptance")
 }
 
-// The texts that details may leave out.
-#[derive(Drop)]
-struct Words {
-    authors: Option<Text>,
-    description: Option<Text>,
-    icon_url: Option<Text>,
-    license_url: Option<Text>,
-    min_client: Option<Text>,
-    project_url: Option<Text>,
-    release_notes: Option<Text>,
-    summary: Option<Text>,
-    title: Option<Text>,
-}
-
-fn words_in(alloc: Global, value: &Value) -> Result<Words, NoMemory>
-    ensures { IfOk result (λ words. words ≡ words_at (view value.now)) }
+fn identity_in(alloc: Global, value: &Value) -> Result<Option<Identity>, NoMemory>
+    ensures { (d : Details) → ShowsDetails d (view value.now) → IfOk result (λ found. found ≡ Some (identity_of d.meta)) }
 {
-    Ok(Words {
-        authors: copy_text_in(alloc, value, "authors")?,
-        description: copy_text_in(alloc, value, "description")?,
-        icon_url: copy_text_in(alloc, value, "iconUrl")?,
-        license_url: copy_text_in(alloc, value, "licenseUrl")?,
-        min_client: copy_text_in(alloc, value, "minClientVersion")?,
-        project_url: copy_text_in(alloc, value, "projectUrl")?,
-        release_notes: copy_text_in(alloc, value, "releaseNotes")?,
-        summary: copy_text_in(alloc, value, "summary")?,
-        title: copy_text_in(alloc, value, "title")?,
-    })
-}
-
-// The metadata of an id, a version and the version's text as it was given.
-fn meta_of(
-    alloc: Global,
-    value: &Value,
-    id: PackageId,
-    version: Version,
-    verbatim: Text,
-) -> Result<Option<Meta>, NoMemory>
-    ensures { (d : Details) → ShowsDetails d (view value.now) → id ≡ d.meta.id → version ≡ d.meta.version → verbatim ≡ d.meta.verbatim
-        → IfOk result (λ found. found ≡ Some d.meta) }
-{
-    let words = words_in(alloc, value)?;
-    let tags = tags_in(alloc, value)?;
-    let Some(groups) = groups_in(alloc, value)? else {
+    let Some(verbatim) = verbatim_in(alloc, value)? else {
         return Ok(None);
     };
-    Ok(Some(Meta {
-        id,
-        version,
-        verbatim,
-        authors: words.authors,
-        description: words.description,
-        icon_url: words.icon_url,
-        license_url: words.license_url,
-        min_client: words.min_client,
-        project_url: words.project_url,
-        release_notes: words.release_notes,
-        summary: words.summary,
-        title: words.title,
-        require_license: require_license_in(value),
-        tags,
-        groups,
-    }))
-}
-
-fn meta_in(alloc: Global, value: &Value) -> Result<Option<Meta>, NoMemory>
-    ensures { (d : Details) → ShowsDetails d (view value.now) → IfOk result (λ found. found ≡ Some d.meta) }
-{
     let Some(id) = id_in(alloc, value)? else {
         return Ok(None);
     };
     let Some(version) = version_in(alloc, value)? else {
         return Ok(None);
     };
-    let Some(verbatim) = verbatim_in(alloc, value)? else {
+    Ok(Some(Identity {
+        id,
+        version,
+        verbatim,
+    }))
+}
+
+fn meta_in(alloc: Global, value: &Value) -> Result<Option<Meta>, NoMemory>
+    ensures { (d : Details) → ShowsDetails d (view value.now) → IfOk result (λ found. found ≡ Some d.meta) }
+{
+    let tags = tags_in(alloc, value)?;
+    let Some(groups) = groups_in(alloc, value)? else {
         return Ok(None);
     };
-    meta_of(alloc, value, id, version, verbatim)
+    let Some(identity) = identity_in(alloc, value)? else {
+        return Ok(None);
+    };
+    let texts = read_texts(alloc, value)?;
+    let require_license = require_license_in(value);
+    Ok(Some(Meta::made_of(identity, texts, require_license, tags, groups)))
 }
 
 /// The details that a value shows whose members are those of details, and perhaps others. Of other values something
@@ -214,10 +169,10 @@ pub fn read_details(alloc: Global, value: &Value) -> Result<Option<Details>, NoM
     let Some(marks) = marks_in(value) else {
         return Ok(None);
     };
-    let Some(meta) = meta_in(alloc, value)? else {
+    let Some(hash) = hash_in(alloc, value)? else {
         return Ok(None);
     };
-    let Some(hash) = hash_in(alloc, value)? else {
+    let Some(meta) = meta_in(alloc, value)? else {
         return Ok(None);
     };
     Ok(Some(Details {

@@ -4,6 +4,5 @@ pub mod Matches
 pub mod OneAnswer
 pub mod Printed
 pub mod RoundTrip
-pub mod SameTexts
 pub mod Slots
 pub mod Tables

@@ -14,7 +14,7 @@ use Rattle.pkg_meta.specs.Laws.{restated}
 use Rattle.pkg_meta.specs.Members.{present, slot_value}
 use Rattle.pkg_meta.specs.Publisher.{IsDepOf, IsGroupOf, IsMetaOf, IsMetaText, Match}
 use Rattle.pkg_meta.specs.TextMeta.{IsTextMeta}
-use Rattle.pkg_meta.specs.Texts.{links_at, links_of, release_at, release_of, texts_at, texts_of, words_at, words_of}
+use Rattle.pkg_meta.specs.Texts.{texts_at, texts_of}
 use Rattle.pkg_meta.specs.Trees.{array_if, dep_tree, group_table, group_tree, meta_table, meta_tree, text_if}
 use Rattle.pkg_meta.specs.Values.{flag_at, is_array_of, is_flag, is_optional, is_required, is_text, items_at, list_of, text_at}
 use Rattle.pkg_meta.specs.declared.dependency.Dep.{Dep}
@@ -23,7 +23,6 @@ use Rattle.pkg_meta.specs.declared.kinds.Kind.{Kind}
 use Rattle.pkg_meta.specs.declared.meta.Meta.{Meta}
 use Rattle.pkg_meta.proofs.Lists.{list_of-items_of}
 use Rattle.pkg_meta.proofs.Printed.{meta_is}
-use Rattle.pkg_meta.proofs.SameTexts.{same_links, same_release, same_texts, same_words}
 use Rattle.pkg_meta.proofs.Slots.{get_slot}
 
 text_from : (d : Data) (k : List ℕ) (text : Option (List ℕ)) → get k d ≡ text_if text → text ≡ text_at k d
@@ -168,26 +167,22 @@ tree_fits m = no_misfit kinds (tree m) (
   ),
 )
 
-links_back : (m : Meta) → links_of (restated m) ≡ links_at (tree m)
-links_back m = same_links (links_of (restated m)) (links_at (tree m))
-    (text_from (tree m) (codes "iconUrl") m.icon_url (at m (codes "iconUrl")))
-    (text_from (tree m) (codes "licenseUrl") m.license_url (at m (codes "licenseUrl")))
-    (text_from (tree m) (codes "projectUrl") m.project_url (at m (codes "projectUrl")))
-
-words_back : (m : Meta) → words_of (restated m) ≡ words_at (tree m)
-words_back m = same_words (words_of (restated m)) (words_at (tree m))
-    (text_from (tree m) (codes "authors") m.authors (at m (codes "authors")))
-    (text_from (tree m) (codes "description") m.description (at m (codes "description")))
-    (text_from (tree m) (codes "summary") m.summary (at m (codes "summary")))
-    (text_from (tree m) (codes "title") m.title (at m (codes "title")))
-
-release_back : (m : Meta) → release_of (restated m) ≡ release_at (tree m)
-release_back m = same_release (release_of (restated m)) (release_at (tree m))
-    (text_from (tree m) (codes "minClientVersion") m.min_client (at m (codes "minClientVersion")))
-    (text_from (tree m) (codes "releaseNotes") m.release_notes (at m (codes "releaseNotes")))
-
 texts_back : (m : Meta) → texts_of (restated m) ≡ texts_at (tree m)
-texts_back m = same_texts (texts_of (restated m)) (texts_at (tree m)) (links_back m) (words_back m) (release_back m)
+texts_back m =
+    let icon_url_is = text_from (tree m) (codes "iconUrl") m.icon_url (at m (codes "iconUrl")) in
+    let license_url_is = text_from (tree m) (codes "licenseUrl") m.license_url (at m (codes "licenseUrl")) in
+    let project_url_is = text_from (tree m) (codes "projectUrl") m.project_url (at m (codes "projectUrl")) in
+    let authors_is = text_from (tree m) (codes "authors") m.authors (at m (codes "authors")) in
+    let description_is = text_from (tree m) (codes "description") m.description (at m (codes "description")) in
+    let summary_is = text_from (tree m) (codes "summary") m.summary (at m (codes "summary")) in
+    let title_is = text_from (tree m) (codes "title") m.title (at m (codes "title")) in
+    let min_client_is = text_from (tree m) (codes "minClientVersion") m.min_client (at m (codes "minClientVersion")) in
+    let release_notes_is = text_from (tree m) (codes "releaseNotes") m.release_notes (at m (codes "releaseNotes")) in
+    λ i. record {
+      links = record { icon_url = icon_url_is i; license_url = license_url_is i; project_url = project_url_is i };
+      words = record { authors = authors_is i; description = description_is i; summary = summary_is i; title = title_is i };
+      release = record { min_client = min_client_is i; release_notes = release_notes_is i };
+    }
 
 tree_says : (m : Meta) → IsMetaOf (tree m) (restated m)
 tree_says m = record {

@@ -32,48 +32,51 @@ pub struct Meta {
     pub groups: Many<DepGroup>,
 }
 
-// The id and the version of a package, with the version's text.
+/// The id and the version of a package.
 #[derive(Drop)]
-pub(crate) struct Identity {
+pub struct Identity {
     pub id: PackageId,
     pub version: Version,
+    /// The version's text as it was given.
     pub verbatim: Text,
 }
 
-// Where a package's icon, license and project are.
+/// Where a package's icon, license and project are.
 #[derive(Drop)]
-pub(crate) struct Links {
+pub struct Links {
     pub icon_url: Option<Text>,
     pub license_url: Option<Text>,
     pub project_url: Option<Text>,
 }
 
-// Who made a package, and what it is.
+/// Who made a package, and what it is.
 #[derive(Drop)]
-pub(crate) struct Words {
+pub struct Words {
     pub authors: Option<Text>,
     pub description: Option<Text>,
     pub summary: Option<Text>,
     pub title: Option<Text>,
 }
 
-// What concerns one version of a package.
+/// What concerns one version of a package.
 #[derive(Drop)]
-pub(crate) struct Release {
+pub struct Release {
+    /// The oldest NuGet client that can install the package.
     pub min_client: Option<Text>,
     pub release_notes: Option<Text>,
 }
 
-// The texts that metadata may leave out.
+/// The texts that metadata may leave out.
 #[derive(Drop)]
-pub(crate) struct Texts {
+pub struct Texts {
     pub links: Links,
     pub words: Words,
     pub release: Release,
 }
 
 impl Meta {
-    pub(crate) fn made_of(
+    /// The metadata of these parts.
+    pub fn made_of(
         identity: Identity,
         texts: Texts,
         require_license: Option<bool>,

@@ -155,7 +155,8 @@ fn read_release(alloc: Global, value: &Value) -> Result<Release, NoMemory>
     })
 }
 
-fn read_texts(alloc: Global, value: &Value) -> Result<Texts, NoMemory>
+/// The texts of metadata that an object says, each under its name.
+pub fn read_texts(alloc: Global, value: &Value) -> Result<Texts, NoMemory>
     ensures { IfOk result (λ t. t ≡ texts_at (view value.now)) }
 {
     let links = read_links(alloc, value)?;

@@ -10,22 +10,22 @@ pub returns-in_default-clause-tree : goal.returns-in_default-clause-tree
 returns-in_default-clause-tree c = λ d v is. absurd (none-some _ (sym c.in_default.is ∙ c.marks_in.ensures d v (tree_shows d _ is)))
 
 pub returns-in_default-2-clause-shown : goal.returns-in_default-2-clause-shown
-returns-in_default-2-clause-shown c = λ d v shows. absurd (none-some _ (sym c.in_default-2.is ∙ c.in_ok-meta.ensures d shows))
+returns-in_default-2-clause-shown c = λ d v shows. absurd (none-some _ (sym c.in_default-2.is ∙ c.in_ok-hash.ensures d shows))
 
 pub returns-in_default-2-clause-tree : goal.returns-in_default-2-clause-tree
-returns-in_default-2-clause-tree c = λ d v is. absurd (none-some _ (sym c.in_default-2.is ∙ c.in_ok-meta.ensures d (tree_shows d _ is)))
+returns-in_default-2-clause-tree c = λ d v is. absurd (none-some _ (sym c.in_default-2.is ∙ c.in_ok-hash.ensures d (tree_shows d _ is)))
 
 pub returns-in_default-3-clause-shown : goal.returns-in_default-3-clause-shown
-returns-in_default-3-clause-shown c = λ d v shows. absurd (none-some _ (sym c.in_default-3.is ∙ c.in_ok-hash.ensures d shows))
+returns-in_default-3-clause-shown c = λ d v shows. absurd (none-some _ (sym c.in_default-3.is ∙ c.in_ok-meta.ensures d shows))
 
 pub returns-in_default-3-clause-tree : goal.returns-in_default-3-clause-tree
-returns-in_default-3-clause-tree c = λ d v is. absurd (none-some _ (sym c.in_default-3.is ∙ c.in_ok-hash.ensures d (tree_shows d _ is)))
+returns-in_default-3-clause-tree c = λ d v is. absurd (none-some _ (sym c.in_default-3.is ∙ c.in_ok-meta.ensures d (tree_shows d _ is)))
 
 pub returns-clause-shown : goal.returns-clause-shown
 returns-clause-shown c = λ d v shows.
     let marks = same_Some _ _ (sym c.in-Some.is ∙ c.marks_in.ensures d v shows) in
-    let metas : c.in-Some-2.meta ≡ d.meta = same_Some _ _ (sym c.in-Some-2.is ∙ c.in_ok-meta.ensures d shows) in
-    let hashes : c.in-Some-3.hash ≡ d.hash = same_Some _ _ (sym c.in-Some-3.is ∙ c.in_ok-hash.ensures d shows) in
+    let metas : c.in-Some-3.meta ≡ d.meta = same_Some _ _ (sym c.in-Some-3.is ∙ c.in_ok-meta.ensures d shows) in
+    let hashes : c.in-Some-2.hash ≡ d.hash = same_Some _ _ (sym c.in-Some-2.is ∙ c.in_ok-hash.ensures d shows) in
     λ i. Some (record {
       meta = metas i;
       listed = (marks i).listed;
@@ -40,8 +40,8 @@ pub returns-clause-tree : goal.returns-clause-tree
 returns-clause-tree c = λ d v is.
     let shows = tree_shows d _ is in
     let marks = same_Some _ _ (sym c.in-Some.is ∙ c.marks_in.ensures d v shows) in
-    let metas : c.in-Some-2.meta ≡ d.meta = same_Some _ _ (sym c.in-Some-2.is ∙ c.in_ok-meta.ensures d shows) in
-    let hashes : c.in-Some-3.hash ≡ d.hash = same_Some _ _ (sym c.in-Some-3.is ∙ c.in_ok-hash.ensures d shows) in
+    let metas : c.in-Some-3.meta ≡ d.meta = same_Some _ _ (sym c.in-Some-3.is ∙ c.in_ok-meta.ensures d shows) in
+    let hashes : c.in-Some-2.hash ≡ d.hash = same_Some _ _ (sym c.in-Some-2.is ∙ c.in_ok-hash.ensures d shows) in
     λ i. Some (record {
       meta = metas i;
       listed = (marks i).listed;
