@@ -1,5 +1,5 @@
 // The entries of an id, with an item more.
-ghost use Rattle.std.specs.Prelude.{◌≡◌, IfOk, OnOk, OnErr};
+ghost use Rattle.std.specs.Prelude.{◌≡◌, IfOk, None, OnOk, OnErr, Some};
 ghost use Rattle.std.specs.List.{position, slice_get};
 ghost use Rattle.pkg_meta.specs.Entries.{AreRising};
 ghost use Rattle.pkg_meta.specs.Items.{version_of};
@@ -61,6 +61,34 @@ fn is_tied(entries: &[Entry], at: usize, version: &Version) -> bool
     }
 }
 
+// Puts the entry in the version's place. Without memory the entries stay.
+fn put_entry(
+    entries: &mut Vec<Entry>,
+    version: &Version,
+    entry: Entry,
+) -> Result<(), NoMemory>
+    ensures ok { OnOk result (entries.new.items ≡ replaced version.now (Some entry) entries.old.items) }
+    ensures err { OnErr result (entries.new.items ≡ entries.old.items) }
+{
+    let at = place_of(entries, version);
+    if is_tied(entries, at, version) {
+        mem::drop(mem::replace(&mut entries[at], entry));
+    } else {
+        entries.insert(at, entry)?;
+    }
+    Ok(())
+}
+
+// Takes out the entry of the version, where there is one.
+fn remove_entry(entries: &mut Vec<Entry>, version: &Version)
+    ensures { entries.new.items ≡ replaced version.now None entries.old.items }
+{
+    let at = place_of(entries, version);
+    if is_tied(entries, at, version) {
+        mem::drop(entries.remove(at));
+    }
+}
+
 // Puts an entry in the version's place, or takes the one there out. Without memory the entries stay.
 fn put_version(
     entries: &mut Vec<Entry>,
@@ -70,17 +98,13 @@ fn put_version(
     ensures ok { OnOk result (entries.new.items ≡ replaced version.now new entries.old.items) }
     ensures err { OnErr result (entries.new.items ≡ entries.old.items) }
 {
-    let at = place_of(entries, version);
-    let tied = is_tied(entries, at, version);
     match new {
-        Some(entry) if tied => entries[at] = entry,
-        Some(entry) => entries.insert(at, entry)?,
-        None if tied => {
-            entries.remove(at);
+        Some(entry) => put_entry(entries, version, entry),
+        None => {
+            remove_entry(entries, version);
+            Ok(())
         }
-        None => {}
     }
-    Ok(())
 }
 
 /// Replaces or adds the entry of an item's version, or takes it out where the hive doesn't keep the item.
