@@ -1,5 +1,5 @@
 // What the index says of the pages.
-ghost use Rattle.std.specs.Prelude.{◌≡◌, ◌<◌, ◌^◌, IfOk, length, map, string_bytes};
+ghost use Rattle.std.specs.Prelude.{◌≡◌, ◌<◌, ◌^◌, IfOk, length, map};
 ghost use Rattle.serde_json.specs.View.{view};
 ghost use Rattle.catalog_doc.specs.Documents.{head_data, head_object, heads_data, index_data, index_object, index_text, last_head};
 
@@ -11,12 +11,12 @@ use std::alloc::{AllocError, Global};
 
 fn head_object(
     alloc: Global,
-    url: String,
-    commit: String,
-    stamp: String,
+    url: &str,
+    commit: &str,
+    stamp: &str,
     count: u32,
 ) -> Result<Value, AllocError>
-    ensures { IfOk result (λ v. view v ≡ head_object (string_bytes url) (string_bytes commit) (string_bytes stamp) count) }
+    ensures { IfOk result (λ v. view v ≡ head_object url.now commit.now stamp.now count) }
 {
     json!(in alloc; {"@id": url, "commitId": commit, "commitTimeStamp": stamp, "count": count})
 }
@@ -26,8 +26,8 @@ fn head_value(alloc: Global, base: &str, page: u32, head: &PageHead) -> Result<V
 {
     let url = page_url(alloc, base, page)?;
     let commit = commit_id(alloc, head.number)?;
-    let stamp = head.stamp.print(alloc)?.into_string();
-    let value = head_object(alloc, url, commit, stamp, head.count)?;
+    let stamp = head.stamp.print(alloc)?;
+    let value = head_object(alloc, &url, &commit, stamp.as_str(), head.count)?;
     Ok(value)
 }
 
@@ -60,13 +60,13 @@ fn last_head(heads: &[PageHead]) -> PageHead
 
 fn index_object(
     alloc: Global,
-    url: String,
-    commit: String,
-    stamp: String,
+    url: &str,
+    commit: &str,
+    stamp: &str,
     count: usize,
     heads: Vec<Value>,
 ) -> Result<Value, AllocError>
-    ensures { IfOk result (λ v. view v ≡ index_object (string_bytes url) (string_bytes commit) (string_bytes stamp) count (map view heads.items)) }
+    ensures { IfOk result (λ v. view v ≡ index_object url.now commit.now stamp.now count (map view heads.items)) }
 {
     json!(in alloc; {
         "@id": url,
@@ -84,9 +84,9 @@ fn index_value(alloc: Global, base: &str, heads: &[PageHead]) -> Result<Value, N
     let last = last_head(heads);
     let url = index_url(alloc, base)?;
     let commit = commit_id(alloc, last.number)?;
-    let stamp = last.stamp.print(alloc)?.into_string();
+    let stamp = last.stamp.print(alloc)?;
     let values = head_values(alloc, base, heads)?;
-    let value = index_object(alloc, url, commit, stamp, heads.len(), values)?;
+    let value = index_object(alloc, &url, &commit, stamp.as_str(), heads.len(), values)?;
     Ok(value)
 }
 

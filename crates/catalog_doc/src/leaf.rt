@@ -1,5 +1,5 @@
 // The leaf of an item.
-ghost use Rattle.std.specs.Prelude.{◌≡◌, IfOk, OnOk, string_bytes};
+ghost use Rattle.std.specs.Prelude.{◌≡◌, IfOk, OnOk};
 ghost use Rattle.serde_json.specs.View.{view, members_view};
 ghost use Rattle.pkg_meta.specs.Members.{put_slots};
 ghost use Rattle.pkg_meta.specs.declared.item.Item.TheVariants as the;
@@ -48,13 +48,13 @@ fn details_value(
 
 fn gone_object(
     alloc: Global,
-    url: String,
-    commit: String,
+    url: &str,
+    commit: &str,
     stamp: &str,
     id: &str,
-    version: String,
+    version: &str,
 ) -> Result<Value, AllocError>
-    ensures { IfOk result (λ v. view v ≡ gone_object (string_bytes url) (string_bytes commit) stamp.now id.now (string_bytes version)) }
+    ensures { IfOk result (λ v. view v ≡ gone_object url.now commit.now stamp.now id.now version.now) }
 {
     json!(in alloc; {
         "@id": url,
@@ -81,14 +81,14 @@ fn gone_value(
     let url = leaf_url(alloc, base, number, place)?;
     let commit = commit_id(alloc, number)?;
     let stamp = stamp.print(alloc)?;
-    let version = version.full(alloc)?.into_string();
+    let version = version.full(alloc)?;
     let value = gone_object(
         alloc,
-        url,
-        commit,
+        &url,
+        &commit,
         stamp.as_str(),
         id.text.as_str(),
-        version,
+        version.as_str(),
     )?;
     Ok(value)
 }

@@ -150,7 +150,7 @@ fn bytes_of(
     text_of(alloc, &texts)
 }
 
-// The JSON text of a page. It fails for want of memory alone.
+// The JSON text of a page.
 fn text_of(alloc: Global, page: &PageTexts<'_>) -> Result<Bytes, NoMemory>
     ensures { IfOk result (λ b. b ≡ compact_text (told_page page.now)) }
 {
