@@ -62,11 +62,7 @@ fn is_tied(entries: &[Entry], at: usize, version: &Version) -> bool
 }
 
 // Puts the entry in the version's place. Without memory the entries stay.
-fn put_entry(
-    entries: &mut Vec<Entry>,
-    version: &Version,
-    entry: Entry,
-) -> Result<(), NoMemory>
+fn put_entry(entries: &mut Vec<Entry>, version: &Version, entry: Entry) -> Result<(), NoMemory>
     ensures ok { OnOk result (entries.new.items ≡ replaced version.now (Some entry) entries.old.items) }
     ensures err { OnErr result (entries.new.items ≡ entries.old.items) }
 {
