@@ -3,6 +3,7 @@ use fold_core::{Body, Commit, Details, Doc, Hive, Item, Many, NoMemory, docs_fro
 use pkg_meta::{Meta, Text, Ticks};
 use std::alloc::Global;
 use std::convert::AsStr;
+use std::mem;
 
 pub const BASE: &str = "http://f.test/";
 
@@ -13,11 +14,26 @@ pub fn stamp(number: u32) -> Ticks {
 
 // The details of the publish of a package with this metadata.
 pub fn details(alloc: Global, text: &str, number: u32, place: u32) -> Result<Details, NoMemory> {
+    let hash = Text::copy_of(alloc, "")?;
     let Ok(meta) = Meta::read(alloc, text.as_bytes()) else {
         return Err(NoMemory);
     };
-    let hash = Text::copy_of(alloc, "")?;
     Ok(Details::published(meta, number, place, stamp(number), 3, hash))
+}
+
+// The delete of the version that the details are of.
+fn gone_of(alloc: Global, details: &Details) -> Result<Item, NoMemory> {
+    let id = details.meta.id.copy(alloc)?;
+    let version = details.meta.version.copy(alloc)?;
+    Ok(Item::Gone { id, version })
+}
+
+/// The delete of the version that this metadata is of.
+pub fn gone(alloc: Global, text: &str) -> Result<Item, NoMemory> {
+    let details = details(alloc, text, 1, 0)?;
+    let item = gone_of(alloc, &details);
+    mem::drop(details);
+    item
 }
 
 pub fn commit(number: u32, items: Many<Item>) -> Commit {

@@ -1,5 +1,5 @@
 // The content hive's documents of publishes, an unlisting, a delete and a publish again.
-use crate::catalogs::{commit, details, publishes, text_of};
+use crate::catalogs::{commit, details, gone, publishes, text_of};
 use crate::same::same;
 use flat_container::{Body, Content, Hive, HiveName};
 use fold_core::{Commit, Doc, Item, Many, NoMemory, docs_from_scratch};
@@ -56,9 +56,7 @@ fn unlisting(alloc: Global) -> Result<Commit, NoMemory> {
 }
 
 fn delete(alloc: Global) -> Result<Commit, NoMemory> {
-    let gone = details(alloc, RELEASE, 1, 0)?.meta;
-    let (id, version) = (gone.id, gone.version);
-    commit_of(alloc, 3, Item::Gone { id, version })
+    commit_of(alloc, 3, gone(alloc, RELEASE)?)
 }
 
 // Three publishes, an unlisting of the second, a delete of the first, and a publish of it again.

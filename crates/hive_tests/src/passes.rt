@@ -1,9 +1,11 @@
 // The calls of passes, by kind and name.
-use crate::catalogs::details;
+use crate::catalogs::{details, gone};
 use flat_container::Content;
 use hive_state::read_state;
-use id_pass::{Body, Call, Item, NoMemory, Placed, Plan, StateDoc, Ticks, make_plan};
+use id_pass::{Body, Call, Item, NoMemory, Placed, Plan, Ticks, make_plan};
+use pkg_meta::Bytes;
 use std::alloc::{AllocError, Global};
+use std::mem;
 use std::process::Abort;
 use std::test::Fail;
 
@@ -57,11 +59,7 @@ fn publish(alloc: Global, meta: &str, number: u32) -> Result<Placed, NoMemory> {
 }
 
 fn delete(alloc: Global, meta: &str, number: u32) -> Result<Placed, NoMemory> {
-    let gone = details(alloc, meta, number, 0)?.meta;
-    let item = Item::Gone {
-        id: gone.id,
-        version: gone.version,
-    };
+    let item = gone(alloc, meta)?;
     let stamp = Ticks::of(7).unwrap();
     Ok(Placed {
         number,
@@ -71,13 +69,26 @@ fn delete(alloc: Global, meta: &str, number: u32) -> Result<Placed, NoMemory> {
     })
 }
 
-fn plan(
-    alloc: Global,
-    old: Option<&StateDoc>,
-    items: &[Placed],
-    target: u32,
-) -> Result<Plan, NoMemory> {
-    make_plan::<Content>(alloc, "http://f.test/", "foo", old, items, target)
+// A list of one item.
+fn one(alloc: Global, item: Placed) -> Result<Vec<Placed>, NoMemory> {
+    let mut items = Vec::new(alloc);
+    items.push(item)?;
+    Ok(items)
+}
+
+// The calls of a pass from the state of these bytes, or from none where there is no byte.
+fn plan(alloc: Global, old: &[u8], items: &[Placed], target: u32) -> Result<Plan, NoMemory> {
+    let state = read_state(alloc, old).ok();
+    let plan = make_plan::<Content>(
+        alloc,
+        "http://f.test/",
+        "foo",
+        state.as_ref(),
+        items,
+        target,
+    );
+    mem::drop(state);
+    plan
 }
 
 fn line_of(alloc: Global, call: &Call) -> Result<String, AllocError> {
@@ -87,55 +98,60 @@ fn line_of(alloc: Global, call: &Call) -> Result<String, AllocError> {
     }
 }
 
-// The calls, and the state that the n-th one puts.
-fn walk(alloc: Global, plan: &mut Plan, n: u32) -> Result<(String, Option<StateDoc>), NoMemory> {
+// The bytes that a call puts, none where it puts no bytes of its own.
+fn bytes_of(alloc: Global, call: &Call) -> Result<Bytes, NoMemory> {
+    match call {
+        Call::Put {
+            body: Body::Made(bytes),
+            ..
+        } => bytes.copy(alloc),
+        _ => Bytes::copy_of(alloc, b""),
+    }
+}
+
+// The calls, and the bytes that the n-th one puts.
+fn walk(alloc: Global, plan: &mut Plan, n: u32) -> Result<(String, Bytes), NoMemory> {
     let mut lines = String::new(alloc);
-    let mut state = None;
+    let mut bytes = Bytes::copy_of(alloc, b"")?;
     for at in 0..100u32 {
         let Some(call) = plan.next_call() else {
             break;
         };
         lines.push_str(line_of(alloc, call)?.as_str())?;
         if at == n {
-            if let Call::Put {
-                body: Body::Made(bytes),
-                ..
-            } = call
-            {
-                state = read_state(alloc, bytes.as_slice()).ok();
-            }
+            bytes = bytes_of(alloc, call)?;
         }
         plan.advance();
     }
-    Ok((lines, state))
+    Ok((lines, bytes))
 }
 
-// Asserts the calls of a pass from a state up to a commit, and gives the state that the n-th one puts.
+// Asserts the calls of a pass from a state up to a commit, and gives the bytes that the n-th one puts.
 fn passes(
     rt: &impl Abort,
     alloc: Global,
-    old: Option<&StateDoc>,
+    old: &[u8],
     items: &[Placed],
     target: u32,
     n: u32,
     want: &str,
-) -> Result<Option<StateDoc>, NoMemory> {
+) -> Result<Bytes, NoMemory> {
     let mut plan = plan(alloc, old, items, target)?;
-    let (lines, state) = walk(alloc, &mut plan, n)?;
+    let (lines, bytes) = walk(alloc, &mut plan, n)?;
     assert_eq!(rt; lines.as_str(), want);
-    Ok(state)
+    Ok(bytes)
 }
 
 #[test]
 fn calls_of_passes(rt: HostRuntime) -> Result<(), Fail> {
     let alloc = rt.alloc();
-    let first = [publish(alloc, SHORT, 1)?];
-    let clean = passes(&rt, alloc, None, &first, 1, 4, FIRST)?;
-    let second = [publish(alloc, NEXT, 2)?];
-    let dirty = passes(&rt, alloc, clean.as_ref(), &second, 2, 0, SECOND)?;
-    passes(&rt, alloc, dirty.as_ref(), &[], 2, 0, AGAIN)?;
-    let gone = [delete(alloc, SHORT, 2)?];
-    passes(&rt, alloc, clean.as_ref(), &gone, 2, 0, GONE)?;
-    passes(&rt, alloc, clean.as_ref(), &[], 2, 0, "")?;
+    let first = one(alloc, publish(alloc, SHORT, 1)?)?;
+    let clean = passes(&rt, alloc, b"", &first, 1, 4, FIRST)?;
+    let second = one(alloc, publish(alloc, NEXT, 2)?)?;
+    let dirty = passes(&rt, alloc, clean.as_slice(), &second, 2, 0, SECOND)?;
+    passes(&rt, alloc, dirty.as_slice(), &[], 2, 0, AGAIN)?;
+    let gone = one(alloc, delete(alloc, SHORT, 2)?)?;
+    passes(&rt, alloc, clean.as_slice(), &gone, 2, 0, GONE)?;
+    passes(&rt, alloc, clean.as_slice(), &[], 2, 0, "")?;
     Ok(())
 }
