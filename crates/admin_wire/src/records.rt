@@ -14,7 +14,6 @@ use crate::header::{Lengths, read_lengths};
 use catalog_doc::{Change, Changes};
 use pkg_meta::{Bytes, Many, Meta, MetaErr, NoMemory};
 use std::alloc::Global;
-use std::mem;
 
 // A record's parts, and what stands behind it.
 #[derive(Clone, Copy)]
@@ -67,14 +66,6 @@ fn meta_refused(place: u64, why: MetaErr) -> BodyErr
     }
 }
 
-fn copied(alloc: Global, nuspec: &[u8], nupkg: &[u8]) -> Result<(Bytes, Bytes), NoMemory>
-    ensures { IfOk result (λ files. (files.0 ≡ nuspec.now) × (files.1 ≡ nupkg.now)) }
-{
-    let nuspec = Bytes::copy_of(alloc, nuspec)?;
-    let nupkg = Bytes::copy_of(alloc, nupkg)?;
-    Ok((nuspec, nupkg))
-}
-
 // The publish of a record, whose place is told where its metadata is refused.
 fn publish_of(alloc: Global, place: u64, record: Record<'_>) -> Result<Change, BodyErr>
     ensures ok { IfOk result (λ c. (m : Meta) × IsMetaText record.entry.meta.now m × (c ≡ Publish m record.entry.nuspec.now record.entry.nupkg.now)) }
@@ -85,10 +76,8 @@ fn publish_of(alloc: Global, place: u64, record: Record<'_>) -> Result<Change, B
         Ok(meta) => meta,
         Err(why) => return Err(meta_refused(place, why)),
     };
-    let Ok((nuspec, package)) = copied(alloc, record.nuspec, record.nupkg) else {
-        mem::drop(meta);
-        return Err(BodyErr::Memory);
-    };
+    let nuspec = Bytes::copy_of(alloc, record.nuspec)?;
+    let package = Bytes::copy_of(alloc, record.nupkg)?;
     Ok(Change::Publish {
         meta,
         nuspec,

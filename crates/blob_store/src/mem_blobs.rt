@@ -17,7 +17,6 @@ use std::alloc::Global;
 use std::collections::BTreeMap;
 
 /// A store in memory, which keeps a record of its changes and of the names that it was asked.
-#[derive(Drop)]
 pub struct MemBlobs {
     blobs: BTreeMap<String, Bytes>,
     changes: Vec<Change>,
@@ -26,6 +25,20 @@ pub struct MemBlobs {
     fails: Vec<Fail>,
     asked: Vec<Text>,
     ghost numbered: { IsTrue (are_numbered calls changes.items) },
+}
+
+// One call drops all parts, wherever a store ends.
+impl Drop for MemBlobs {
+    fn drop(self) {
+        let MemBlobs {
+            blobs,
+            changes,
+            calls,
+            faults,
+            fails,
+            asked,
+        } = self;
+    }
 }
 
 impl MemBlobs {

@@ -9,7 +9,6 @@ use catalog_doc::{DocErr, Row};
 use catalog_reading::read_leaf;
 use pkg_meta::{Item, NoMemory, Ticks};
 use std::alloc::Global;
-use std::mem;
 
 fn is_same_kind(gone: bool, other: bool) -> bool
     ensures { IsTrue result ↔ (gone ≡ other) }
@@ -41,7 +40,7 @@ fn is_moment(stamp: Ticks, moment: u64) -> bool
 fn item_if(there: bool, item: Item) -> Option<Item>
     ensures { result ≡ (if there then Some item else None) }
 {
-    there.then_some(item)
+    if there { Some(item) } else { None }
 }
 
 // The item whose leaf at the row's place, with the row's stamp, the bytes are, or none.
@@ -67,14 +66,9 @@ pub(crate) fn leaf_of(alloc: Global, base: &str, row: &Row, bytes: &[u8]) -> Res
     let Some(item) = item_there(alloc, base, row, bytes)? else {
         return Err(DocErr::Damaged);
     };
-    let Ok(told) = tells_of(alloc, row, &item) else {
-        mem::drop(item);
-        return Err(DocErr::Memory);
-    };
-    if told {
+    if tells_of(alloc, row, &item)? {
         Ok(item)
     } else {
-        mem::drop(item);
         Err(DocErr::Damaged)
     }
 }

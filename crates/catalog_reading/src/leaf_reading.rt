@@ -1,5 +1,5 @@
 // A reader of an item's leaf, which accepts exactly what the writer writes.
-ghost use Rattle.std.specs.Prelude.{◌≡◌, ◌↔◌, ◌≤◌, ℕ, List, Bool, Some, IfOk, IsErrOf, IsTrue, option_map, slice_get};
+ghost use Rattle.std.specs.Prelude.{◌≡◌, ◌≤◌, ℕ, List, Bool, Some, IfOk, IsErrOf, option_map, slice_get};
 ghost use Rattle.serde_json.specs.Data.{string};
 ghost use Rattle.serde_json.specs.View.{view};
 ghost use Rattle.package_id.specs.declared.id.PackageId.{PackageId};
@@ -20,7 +20,6 @@ use json_law::value_of;
 use pkg_meta::{Item, NoMemory, PackageId, Ticks, Version, items_in, text_in};
 use serde_json::Value;
 use std::alloc::Global;
-use std::mem;
 
 // The stamp of the commit that a leaf is of.
 fn stamp_in(value: &Value) -> Option<Ticks>
@@ -112,22 +111,6 @@ fn item_in(alloc: Global, value: &Value) -> Result<Option<Item>, NoMemory>
     }
 }
 
-// Whether the bytes are the item's leaf at this place of a commit.
-fn is_leaf_of(
-    alloc: Global,
-    base: &str,
-    number: u32,
-    place: u32,
-    stamp: Ticks,
-    item: &Item,
-    bytes: &[u8],
-) -> Result<bool, NoMemory>
-    ensures { IfOk result (λ same. IsTrue same ↔ (bytes.now ≡ leaf_text base.now number place stamp item.now)) }
-{
-    let again = leaf_bytes(alloc, base, number, place, stamp, item)?;
-    Ok(is_same(bytes, again.as_slice()))
-}
-
 /// The item whose leaf at this place of a commit the bytes are, and the commit's stamp. `Damaged` comes where they are
 /// no such leaf.
 pub fn read_leaf(
@@ -150,14 +133,10 @@ pub fn read_leaf(
     let Some(item) = item_in(alloc, &value)? else {
         return Err(DocErr::Damaged);
     };
-    let Ok(same) = is_leaf_of(alloc, base, number, place, stamp, &item, bytes) else {
-        mem::drop(item);
-        return Err(DocErr::Memory);
-    };
-    if same {
+    let again = leaf_bytes(alloc, base, number, place, stamp, &item)?;
+    if is_same(again.as_slice(), bytes) {
         Ok((stamp, item))
     } else {
-        mem::drop(item);
         Err(DocErr::Damaged)
     }
 }

@@ -28,12 +28,23 @@ pub(crate) struct NewRows {
 /// The rows of a catalog, and the heads of its pages. The last row of a version, and how many live versions
 /// an id has, are found without a look through all rows. Beside them the rows of a commit can be reserved,
 /// which are taken in later without memory.
-#[derive(Drop)]
 pub struct Rows {
     rows: Vec<Row>,
     pages: Vec<PageHead>,
     latest: Latest,
     reserved: Option<NewRows>,
+}
+
+// One call drops all parts, wherever an open catalog ends.
+impl Drop for Rows {
+    fn drop(self) {
+        let Rows {
+            rows,
+            pages,
+            latest,
+            reserved,
+        } = self;
+    }
 }
 
 impl Model for Rows {

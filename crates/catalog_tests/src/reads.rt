@@ -2,25 +2,17 @@
 use crate::feeds::{START, empty, one, publish, told, unlisting};
 use crate::same::same;
 use blob_store::MemBlobs;
-use catalog_core::{Catalog, ReadErr};
+use catalog_core::Catalog;
 use pkg_meta::{Item, NoMemory};
 use std::alloc::Global;
-use std::mem;
 use std::test::Fail;
-
-fn listing(item: &Result<Item, ReadErr>) -> Option<bool> {
-    match item {
-        Ok(Item::Details(details)) => Some(details.listed),
-        _ => None,
-    }
-}
 
 // Whether the item at the first place of a commit is of details with this listing.
 fn is_listed(alloc: Global, catalog: &mut Catalog<MemBlobs>, number: u32) -> Option<bool> {
-    let item = catalog.leaf(alloc, number, 0);
-    let listed = listing(&item);
-    mem::drop(item);
-    listed
+    match catalog.leaf(alloc, number, 0) {
+        Ok(Item::Details(details)) => Some(details.listed),
+        _ => None,
+    }
 }
 
 fn rows_above(alloc: Global, catalog: &mut Catalog<MemBlobs>, cursor: u32) -> Option<usize> {

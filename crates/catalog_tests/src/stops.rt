@@ -6,7 +6,6 @@ use blob_store::{Fail as Fault, MemBlobs};
 use catalog_core::{Catalog, Changes, ReadErr, Row};
 use pkg_meta::{Bytes, Item, Many, NoMemory};
 use std::alloc::{AllocError, Global};
-use std::mem;
 use std::process::Abort;
 use std::test::Fail;
 
@@ -78,9 +77,7 @@ fn item_line(
     catalog: &mut Catalog<MemBlobs>,
     row: &Row,
 ) -> Result<String, AllocError> {
-    let item = catalog.leaf(alloc, row.number, row.place);
-    let kind = kind_of(&item);
-    mem::drop(item);
+    let kind = kind_of(&catalog.leaf(alloc, row.number, row.place));
     let id = row.id.text.as_str();
     format!(in alloc; "{}/{} {id} {kind}\n", row.number, row.place)
 }

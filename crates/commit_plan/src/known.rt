@@ -26,7 +26,6 @@ use catalog_opening::ReadErr;
 use catalog_rows::Rows;
 use pkg_meta::{Item, Many, NoMemory, PackageId, Version};
 use std::alloc::Global;
-use std::mem;
 
 /// What a commit answers for what a read told.
 pub fn commit_err_for(error: ReadErr) -> CommitErr
@@ -131,10 +130,7 @@ fn unless_already<B: Blobs>(
         Err(error) => return Err(commit_err_for(error)),
     };
     match already_at(place, change, &last) {
-        Some(error) => {
-            mem::drop(last);
-            Err(error)
-        }
+        Some(error) => Err(error),
         None => Ok(last),
     }
 }

@@ -5,7 +5,7 @@ ghost use Rattle.catalog_doc.specs.CatDocs.{rows_from};
 ghost use Rattle.catalog_doc.specs.Commits.{place_puts, staged_of, staged_puts};
 ghost use Rattle.catalog_doc.specs.Documents.{leaf_text};
 ghost use Rattle.catalog_doc.specs.Names.{leaf_name, nupkg_name, nuspec_name};
-ghost use Rattle.commit_plan.specs.Plans.{made_by, made_with};
+ghost use Rattle.commit_plan.specs.Plans.{made_with};
 
 use crate::last::LastItem;
 use crate::making::item_of;
@@ -13,7 +13,6 @@ use blob_store::Call;
 use catalog_doc::{Change, Row, leaf_bytes, leaf_name, nupkg_name, nuspec_name};
 use pkg_meta::{Bytes, Item, Many, NoMemory, Text, Ticks};
 use std::alloc::Global;
-use std::mem;
 
 /// The rows of a commit, and the puts before its page.
 #[derive(Drop)]
@@ -143,54 +142,6 @@ fn add_calls(
     Ok(())
 }
 
-// The row and the puts of an item that a change makes, behind others.
-fn add_item(
-    alloc: Global,
-    base: &str,
-    places: &mut Places,
-    number: u32,
-    place: u32,
-    stamp: Ticks,
-    change: &Change,
-    item: &Item,
-) -> Result<(), NoMemory>
-    ensures rows { OnOk result (places.new.rows ≡ places.old.rows ++ rows_from number stamp place (item.now ∷ [])) }
-    ensures calls { OnOk result (places.new.calls ≡ places.old.calls ++ place_puts base.now number stamp place (item.now ∷ []) (staged_of change.now ∷ [])) }
-{
-    add_row(alloc, &mut places.rows, number, place, stamp, item)?;
-    add_calls(
-        alloc,
-        base,
-        &mut places.calls,
-        number,
-        place,
-        stamp,
-        change,
-        item,
-    )
-}
-
-// What a change makes at a place, of a version with this last item, behind others.
-fn add_place(
-    alloc: Global,
-    base: &str,
-    places: &mut Places,
-    change: &Change,
-    last: &LastItem,
-    number: u32,
-    place: u32,
-    stamp: Ticks,
-) -> Result<(), NoMemory>
-    ensures rows { OnOk result (places.new.rows ≡ places.old.rows ++ rows_from number stamp place (made_by number stamp place last.now change.now ∷ [])) }
-    ensures calls { OnOk result (places.new.calls
-        ≡ places.old.calls ++ place_puts base.now number stamp place (made_by number stamp place last.now change.now ∷ []) (staged_of change.now ∷ [])) }
-{
-    let item = item_of(alloc, change, last, number, place, stamp)?;
-    let added = add_item(alloc, base, places, number, place, stamp, change, &item);
-    mem::drop(item);
-    added
-}
-
 /// What changes make at the places of a commit, of versions with these last items.
 pub(crate) fn places_of(
     alloc: Global,
@@ -206,21 +157,13 @@ pub(crate) fn places_of(
     ensures calls { IfOk result (λ p. p.calls
         ≡ place_puts base.now number stamp 0 (made_with number stamp 0 lasts.now changes.now) (map staged_of changes.now)) }
 {
-    let mut places = Places {
-        rows: Many::new(alloc),
-        calls: Many::new(alloc),
-    };
+    let mut rows = Many::new(alloc);
+    let mut calls = Many::new(alloc);
     for (place, change) in changes.iter().enumerate() {
-        add_place(
-            alloc,
-            base,
-            &mut places,
-            change,
-            &lasts[place],
-            number,
-            place as u32,
-            stamp,
-        )?;
+        let at = place as u32;
+        let item = item_of(alloc, change, &lasts[place], number, at, stamp)?;
+        add_row(alloc, &mut rows, number, at, stamp, &item)?;
+        add_calls(alloc, base, &mut calls, number, at, stamp, change, &item)?;
     }
-    Ok(places)
+    Ok(Places { rows, calls })
 }

@@ -68,7 +68,7 @@ fn put_entry(entries: &mut Vec<Entry>, version: &Version, entry: Entry) -> Resul
 {
     let at = place_of(entries, version);
     if is_tied(entries, at, version) {
-        mem::drop(mem::replace(&mut entries[at], entry));
+        entries[at] = entry;
     } else {
         entries.insert(at, entry)?;
     }
@@ -81,7 +81,7 @@ fn remove_entry(entries: &mut Vec<Entry>, version: &Version)
 {
     let at = place_of(entries, version);
     if is_tied(entries, at, version) {
-        mem::drop(entries.remove(at));
+        entries.remove(at);
     }
 }
 

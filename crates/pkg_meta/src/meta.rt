@@ -10,7 +10,6 @@ use package_id::PackageId;
 use std::alloc::Global;
 
 /// The metadata of a package, as its publisher gave it.
-#[derive(Drop)]
 pub struct Meta {
     pub id: PackageId,
     pub version: Version,
@@ -30,6 +29,29 @@ pub struct Meta {
     pub require_license: Option<bool>,
     pub tags: Many<Text>,
     pub groups: Many<DepGroup>,
+}
+
+// One call drops all parts, wherever metadata end.
+impl Drop for Meta {
+    fn drop(self) {
+        let Meta {
+            id,
+            version,
+            verbatim,
+            authors,
+            description,
+            icon_url,
+            license_url,
+            min_client,
+            project_url,
+            release_notes,
+            summary,
+            title,
+            require_license,
+            tags,
+            groups,
+        } = self;
+    }
 }
 
 /// The id and the version of a package.

@@ -2,7 +2,6 @@
 use crate::same::same;
 use pkg_meta::{Details, Meta, MetaErr, Text, Ticks};
 use std::alloc::{AllocError, Global};
-use std::mem;
 use std::process::Abort;
 use std::test::Fail;
 
@@ -164,22 +163,14 @@ fn told(alloc: Global, error: &MetaErr) -> Result<String, AllocError> {
     format!(in alloc; "{word}{place}")
 }
 
-fn printed_meta(alloc: Global, meta: &Meta) -> Result<String, AllocError> {
-    match meta.tree(alloc) {
-        Ok(value) => value.to_string(alloc),
-        Err(_) => Err(AllocError),
-    }
-}
-
 // What is answered: the reason, or what the metadata prints as.
 fn answer(alloc: Global, bytes: &[u8]) -> Result<String, AllocError> {
     match Meta::read(alloc, bytes) {
         Err(error) => told(alloc, &error),
-        Ok(meta) => {
-            let text = printed_meta(alloc, &meta);
-            mem::drop(meta);
-            text
-        }
+        Ok(meta) => match meta.tree(alloc) {
+            Ok(value) => value.to_string(alloc),
+            Err(_) => Err(AllocError),
+        },
     }
 }
 
@@ -326,23 +317,23 @@ fn printed(alloc: Global, details: &Details) -> Result<String, AllocError> {
     }
 }
 
-// What a published version prints as, or an unlisted one.
-fn printed_as(rt: &impl Abort, alloc: Global, unlisted: bool) -> Result<String, AllocError> {
-    let mut details = published(rt, alloc, "{\"id\":\"Foo\",\"version\":\"1.0.0\"}")?;
-    if unlisted {
-        details.listed = false;
-    }
-    let text = printed(alloc, &details);
-    mem::drop(details);
-    text
-}
-
 #[test]
 fn prints_details(rt: HostRuntime) -> Result<(), Fail> {
-    let listed = printed_as(&rt, rt.alloc(), false)?;
-    same(&rt, listed.as_str(), LISTED, "a listed one");
-    let unlisted = printed_as(&rt, rt.alloc(), true)?;
-    same(&rt, unlisted.as_str(), UNLISTED, "an unlisted one");
+    let alloc = rt.alloc();
+    let mut details = published(&rt, alloc, "{\"id\":\"Foo\",\"version\":\"1.0.0\"}")?;
+    same(
+        &rt,
+        printed(alloc, &details)?.as_str(),
+        LISTED,
+        "a listed one",
+    );
+    details.listed = false;
+    same(
+        &rt,
+        printed(alloc, &details)?.as_str(),
+        UNLISTED,
+        "an unlisted one",
+    );
     Ok(())
 }
 
@@ -376,10 +367,7 @@ const SEMVER2: [(&str, bool); 7] = [
 ];
 
 fn is_semver2(rt: &impl Abort, alloc: Global, text: &str) -> Result<bool, AllocError> {
-    let details = published(rt, alloc, text)?;
-    let is = details.is_semver2();
-    mem::drop(details);
-    Ok(is)
+    Ok(published(rt, alloc, text)?.is_semver2())
 }
 
 #[test]

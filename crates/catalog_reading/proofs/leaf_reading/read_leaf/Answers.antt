@@ -37,18 +37,19 @@ returns-in_default-2-clause-damaged c = λ err stamp it moment v is.
     let leaf = is_read view _ c.in-Some.value (leaf_data c.args.base.now c.args.number c.args.place stamp it) c.in-Some.is read in
     none-some it (sym c.in_default-2.is ∙ c.in_ok-item.ensures c.args.base.now c.args.number c.args.place stamp it v leaf)
 
-pub returns-then-same-clause-exact : goal.returns-then-same-clause-exact
-returns-then-same-clause-exact c = λ stamp it moment v is.
+pub returns-then-is_same-clause-exact : goal.returns-then-is_same-clause-exact
+returns-then-is_same-clause-exact c = λ stamp it moment v is.
     let read = its_value view _ c.args.bytes.now c.args.base.now c.args.number c.args.place stamp it c.in_ok-value.ensures.compact c.utf8.base c.ranges.number.fits c.ranges.place.fits v is in
     let leaf = is_read view _ c.in-Some.value (leaf_data c.args.base.now c.args.number c.args.place stamp it) c.in-Some.is read in
     let stamps : c.in-Some-stamp_in.stamp ≡ stamp = same_Some _ _ (sym c.in-Some-stamp_in.is ∙ c.stamp_in.ensures c.args.base.now c.args.number c.args.place stamp it moment leaf) in
     let items : c.in-Some-2.item ≡ it = same_Some _ _ (sym c.in-Some-2.is ∙ c.in_ok-item.ensures c.args.base.now c.args.number c.args.place stamp it v leaf) in
     (stamps, items)
 
-pub returns-else-same-clause-damaged : goal.returns-else-same-clause-damaged
-returns-else-same-clause-damaged c = λ err stamp it moment v is.
+pub returns-clause-damaged : goal.returns-clause-damaged
+returns-clause-damaged c = λ err stamp it moment v is.
     let read = its_value view _ c.args.bytes.now c.args.base.now c.args.number c.args.place stamp it c.in_ok-value.ensures.compact c.utf8.base c.ranges.number.fits c.ranges.place.fits v is in
     let leaf = is_read view _ c.in-Some.value (leaf_data c.args.base.now c.args.number c.args.place stamp it) c.in-Some.is read in
     let stamps : c.in-Some-stamp_in.stamp ≡ stamp = same_Some _ _ (sym c.in-Some-stamp_in.is ∙ c.stamp_in.ensures c.args.base.now c.args.number c.args.place stamp it moment leaf) in
     let items : c.in-Some-2.item ≡ it = same_Some _ _ (sym c.in-Some-2.is ∙ c.in_ok-item.ensures c.args.base.now c.args.number c.args.place stamp it v leaf) in
-    differs c.if-same.false (c.in-Ok.ensures.1 (is ∙ (λ i. leaf_text c.args.base.now c.args.number c.args.place (sym stamps i) (sym items i))))
+    differs c.if-is_same.false (c.is_same.ensures.1 (c.as_slice.ensures ∙ c.in_ok-again.ensures
+    ∙ (λ i. leaf_text c.args.base.now c.args.number c.args.place (stamps i) (items i)) ∙ sym is))

@@ -16,8 +16,10 @@ loop-place-preserved c =
     let below : i < length lasts = omega arith in
     let at = is_at changes lasts i change last within below c.index-changes-place.is c.index-lasts-place.is in
     record {
-      rows = rows_on c.args.number c.args.stamp i changes lasts change last c.loop-place.places.rows _ _ at
-          c.in_ok-add_place.ensures.rows c.loop-place.invariant.rows;
-      calls = calls_on c.args.base.now c.args.number c.args.stamp i changes lasts change last c.loop-place.places.calls _ _ at
-          c.in_ok-add_place.ensures.calls c.loop-place.invariant.calls;
+      rows = rows_on c.args.number c.args.stamp i changes lasts change last c.loop-place.rows _ _ at
+          (c.in_ok-add_row.ensures ∙ ap (λ (it : Item). c.loop-place.rows ++ rows_from c.args.number c.args.stamp i (it ∷ [])) c.in_ok-item.ensures)
+          c.loop-place.invariant.rows;
+      calls = calls_on c.args.base.now c.args.number c.args.stamp i changes lasts change last c.loop-place.calls _ _ at
+          (c.in_ok-add_calls.ensures ∙ ap (λ (it : Item). c.loop-place.calls ++ place_puts c.args.base.now c.args.number c.args.stamp i (it ∷ []) (staged_of change ∷ [])) c.in_ok-item.ensures)
+          c.loop-place.invariant.calls;
     }

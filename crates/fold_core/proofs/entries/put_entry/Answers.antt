@@ -1,5 +1,4 @@
-use Rattle.std.proofs.Common.{Some, ap, sym, ◌∙◌, arith}
-use Rattle.std.specs.List.{slice_set}
+use Rattle.std.proofs.Common.{Some, sym, ◌∙◌, arith}
 use Rattle.fold_core.proofs.Places.{at_within, set_tied, with_none}
 use Rattle.fold_core.proofs.entries.put_entry.Goals as goal
 
@@ -12,8 +11,7 @@ pub returns-then-is_tied-clause-ok : goal.returns-then-is_tied-clause-ok
 returns-then-is_tied-clause-ok c =
     let at = rw c.deref.ensures.value at c.place_of-at.ensures in
     let tied = rw c.deref-2.ensures.value at (sym c.is_tied.ensures ∙ c.if-is_tied.true) in
-    ap (slice_set c.args.entries.now.items c.place_of-at.result) c.replace.ensures.after
-    ∙ set_tied c.args.version.now c.args.entry c.args.entries.now.items c.place_of-at.result at tied
+    set_tied c.args.version.now c.args.entry c.args.entries.now.items c.place_of-at.result at tied
 
 pub returns-in_ok-insert-clause-ok : goal.returns-in_ok-insert-clause-ok
 returns-in_ok-insert-clause-ok c =
