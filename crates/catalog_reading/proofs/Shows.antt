@@ -260,8 +260,8 @@ module _ (d : Details) (leaf : Data) (shows : ShowsDetails d leaf) where
       let min_client_is = text_found (codes "minClientVersion") leaf d.meta.min_client (shows.1.1.1.1.1.1.1.1.1.0) in
       let release_notes_is = text_found (codes "releaseNotes") leaf d.meta.release_notes (shows.1.1.1.1.1.1.1.1.1.1.1.1.1.1.1.1.0) in
       λ i. record {
-        links = record { icon_url = icon_url_is i; license_url = license_url_is i; project_url = project_url_is i };
-        words = record { authors = authors_is i; description = description_is i; summary = summary_is i; title = title_is i };
+        addresses = record { icon_url = icon_url_is i; license_url = license_url_is i; project_url = project_url_is i };
+        prose = record { authors = authors_is i; description = description_is i; summary = summary_is i; title = title_is i };
         release = record { min_client = min_client_is i; release_notes = release_notes_is i };
       }
 

@@ -179,8 +179,8 @@ texts_back m =
     let min_client_is = text_from (tree m) (codes "minClientVersion") m.min_client (at m (codes "minClientVersion")) in
     let release_notes_is = text_from (tree m) (codes "releaseNotes") m.release_notes (at m (codes "releaseNotes")) in
     λ i. record {
-      links = record { icon_url = icon_url_is i; license_url = license_url_is i; project_url = project_url_is i };
-      words = record { authors = authors_is i; description = description_is i; summary = summary_is i; title = title_is i };
+      addresses = record { icon_url = icon_url_is i; license_url = license_url_is i; project_url = project_url_is i };
+      prose = record { authors = authors_is i; description = description_is i; summary = summary_is i; title = title_is i };
       release = record { min_client = min_client_is i; release_notes = release_notes_is i };
     }
 

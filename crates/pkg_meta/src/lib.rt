@@ -21,7 +21,7 @@ pub use entry::Entry;
 pub use error::MetaErr;
 pub use item::{Details, Item};
 pub use laws::{printed_reads_back, reasons_exclude};
-pub use meta::{Identity, Links, Meta, Release, Texts, Words};
+pub use meta::{Addresses, Identity, Meta, Prose, Release, Texts};
 pub use nuget_version::{Bytes, Many, NoMemory, Text, Version};
 pub use package_id::PackageId;
 pub use reading::{MAX_META_LEN, read_texts};

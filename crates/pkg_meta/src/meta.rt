@@ -1,7 +1,7 @@
 // What a publisher says of a package.
 ghost use Rattle.std.specs.Prelude.{◌≡◌, IfOk};
 ghost use Rattle.pkg_meta.specs.Made.{identity_of, meta_of};
-ghost use Rattle.pkg_meta.specs.Texts.{links_of, release_of, texts_of, words_of};
+ghost use Rattle.pkg_meta.specs.Texts.{addresses_of, prose_of, release_of, texts_of};
 
 use crate::copies::{copy_groups, copy_text_if, copy_texts};
 use crate::dependency::DepGroup;
@@ -65,7 +65,7 @@ pub struct Identity {
 
 /// Where a package's icon, license and project are.
 #[derive(Drop)]
-pub struct Links {
+pub struct Addresses {
     pub icon_url: Option<Text>,
     pub license_url: Option<Text>,
     pub project_url: Option<Text>,
@@ -73,7 +73,7 @@ pub struct Links {
 
 /// Who made a package, and what it is.
 #[derive(Drop)]
-pub struct Words {
+pub struct Prose {
     pub authors: Option<Text>,
     pub description: Option<Text>,
     pub summary: Option<Text>,
@@ -91,8 +91,8 @@ pub struct Release {
 /// The texts that metadata may leave out.
 #[derive(Drop)]
 pub struct Texts {
-    pub links: Links,
-    pub words: Words,
+    pub addresses: Addresses,
+    pub prose: Prose,
     pub release: Release,
 }
 
@@ -108,23 +108,23 @@ impl Meta {
         ensures { result ≡ meta_of identity texts require_license tags groups }
     {
         let Texts {
-            links,
-            words,
+            addresses,
+            prose,
             release,
         } = texts;
         Meta {
             id: identity.id,
             version: identity.version,
             verbatim: identity.verbatim,
-            authors: words.authors,
-            description: words.description,
-            icon_url: links.icon_url,
-            license_url: links.license_url,
+            authors: prose.authors,
+            description: prose.description,
+            icon_url: addresses.icon_url,
+            license_url: addresses.license_url,
             min_client: release.min_client,
-            project_url: links.project_url,
+            project_url: addresses.project_url,
             release_notes: release.release_notes,
-            summary: words.summary,
-            title: words.title,
+            summary: prose.summary,
+            title: prose.title,
             require_license,
             tags,
             groups,
@@ -157,30 +157,30 @@ impl Meta {
     fn copy_texts(&self, alloc: Global) -> Result<Texts, NoMemory>
         ensures { IfOk result (λ t. t ≡ texts_of self.now) }
     {
-        let links = self.copy_links(alloc)?;
-        let words = self.copy_words(alloc)?;
+        let addresses = self.copy_addresses(alloc)?;
+        let prose = self.copy_prose(alloc)?;
         let release = self.copy_release(alloc)?;
         Ok(Texts {
-            links,
-            words,
+            addresses,
+            prose,
             release,
         })
     }
 
-    fn copy_links(&self, alloc: Global) -> Result<Links, NoMemory>
-        ensures { IfOk result (λ t. t ≡ links_of self.now) }
+    fn copy_addresses(&self, alloc: Global) -> Result<Addresses, NoMemory>
+        ensures { IfOk result (λ t. t ≡ addresses_of self.now) }
     {
-        Ok(Links {
+        Ok(Addresses {
             icon_url: copy_text_if(alloc, &self.icon_url)?,
             license_url: copy_text_if(alloc, &self.license_url)?,
             project_url: copy_text_if(alloc, &self.project_url)?,
         })
     }
 
-    fn copy_words(&self, alloc: Global) -> Result<Words, NoMemory>
-        ensures { IfOk result (λ t. t ≡ words_of self.now) }
+    fn copy_prose(&self, alloc: Global) -> Result<Prose, NoMemory>
+        ensures { IfOk result (λ t. t ≡ prose_of self.now) }
     {
-        Ok(Words {
+        Ok(Prose {
             authors: copy_text_if(alloc, &self.authors)?,
             description: copy_text_if(alloc, &self.description)?,
             summary: copy_text_if(alloc, &self.summary)?,

@@ -10,12 +10,12 @@ ghost use Rattle.pkg_meta.specs.Publisher.{IsDepOf, IsGroupOf, IsMetaOf, IsMetaT
 ghost use Rattle.pkg_meta.specs.Refusals.{dep_path, IsFirstRefused, IsNoRange, IsRefusedMeta, IsRefusedDep, IsRefusedGroup, IsRefusedObject};
 ghost use Rattle.pkg_meta.specs.Identity.{IsIdentityOf};
 ghost use Rattle.pkg_meta.specs.Values.{text_at};
-ghost use Rattle.pkg_meta.specs.Texts.{links_at, release_at, texts_at, words_at};
+ghost use Rattle.pkg_meta.specs.Texts.{addresses_at, prose_at, release_at, texts_at};
 
 use crate::dependency::{Dep, DepGroup};
 use crate::error::MetaErr;
 use crate::kinds::misfit;
-use crate::meta::{Identity, Links, Meta, Release, Texts, Words};
+use crate::meta::{Addresses, Identity, Meta, Prose, Release, Texts};
 use crate::values::{copy_text_in, copy_texts_of, flag_in, items_in, text_in, text_or_empty};
 use json_law::value_of;
 use nuget_version::{Many, NoMemory, Text, Version};
@@ -125,20 +125,20 @@ fn read_groups(alloc: Global, values: &[Value]) -> Result<Many<DepGroup>, MetaEr
     Ok(groups)
 }
 
-fn read_links(alloc: Global, value: &Value) -> Result<Links, NoMemory>
-    ensures { IfOk result (λ t. t ≡ links_at (view value.now)) }
+fn read_addresses(alloc: Global, value: &Value) -> Result<Addresses, NoMemory>
+    ensures { IfOk result (λ t. t ≡ addresses_at (view value.now)) }
 {
-    Ok(Links {
+    Ok(Addresses {
         icon_url: copy_text_in(alloc, value, "iconUrl")?,
         license_url: copy_text_in(alloc, value, "licenseUrl")?,
         project_url: copy_text_in(alloc, value, "projectUrl")?,
     })
 }
 
-fn read_words(alloc: Global, value: &Value) -> Result<Words, NoMemory>
-    ensures { IfOk result (λ t. t ≡ words_at (view value.now)) }
+fn read_prose(alloc: Global, value: &Value) -> Result<Prose, NoMemory>
+    ensures { IfOk result (λ t. t ≡ prose_at (view value.now)) }
 {
-    Ok(Words {
+    Ok(Prose {
         authors: copy_text_in(alloc, value, "authors")?,
         description: copy_text_in(alloc, value, "description")?,
         summary: copy_text_in(alloc, value, "summary")?,
@@ -159,12 +159,12 @@ fn read_release(alloc: Global, value: &Value) -> Result<Release, NoMemory>
 pub fn read_texts(alloc: Global, value: &Value) -> Result<Texts, NoMemory>
     ensures { IfOk result (λ t. t ≡ texts_at (view value.now)) }
 {
-    let links = read_links(alloc, value)?;
-    let words = read_words(alloc, value)?;
+    let addresses = read_addresses(alloc, value)?;
+    let prose = read_prose(alloc, value)?;
     let release = read_release(alloc, value)?;
     Ok(Texts {
-        links,
-        words,
+        addresses,
+        prose,
         release,
     })
 }
