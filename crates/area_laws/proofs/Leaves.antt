@@ -24,7 +24,7 @@ use Rattle.catalog_doc.proofs.LeafData.{leaf_fits, leaf_flat, SizeFits}
 use Rattle.catalog_doc.proofs.RowData.{same_id, same_stamp, same_version, text_in}
 use Rattle.catalog_reading.specs.Shown.{leaf_kind, ShowsDetails}
 use Rattle.catalog_reading.proofs.Leaves.{gone_id, gone_version, leaf_type}
-use Rattle.catalog_reading.proofs.Shows.{dep_id, dep_range, group_deps, group_framework, leaf_shows, shows_created, shows_groups, shows_hash, shows_id, shows_listed, shows_origin, shows_require_license, shows_size, shows_tags, shows_verbatim, shows_version, shows_words}
+use Rattle.catalog_reading.proofs.Shows.{dep_id, dep_range, group_deps, group_framework, leaf_shows, shows_created, shows_groups, shows_hash, shows_id, shows_listed, shows_origin, shows_require_license, shows_size, shows_tags, shows_texts, shows_verbatim, shows_version}
 
 -- the trees of dependencies and of their groups tell them
 same_dep : (a b : Dep) → dep_tree a ≡ dep_tree b → a ≡ b
@@ -84,7 +84,7 @@ module _ (d e : Details) (leaf : Data) (v : IsDetailsValue d) (w : IsDetailsValu
       same_version d.meta.version e.meta.version
       (same_Some (full_text d.meta.version) (full_text e.meta.version) (sym (shows_version d leaf p) ∙ shows_version e leaf q)) in
       let verbatim : d.meta.verbatim ≡ e.meta.verbatim = same_Some d.meta.verbatim e.meta.verbatim (sym (shows_verbatim d leaf p) ∙ shows_verbatim e leaf q) in
-      let words = sym (shows_words d leaf p) ∙ shows_words e leaf q in
+      let texts = sym (shows_texts d leaf p) ∙ shows_texts e leaf q in
       let license : d.meta.require_license ≡ e.meta.require_license = sym (shows_require_license d leaf p) ∙ shows_require_license e leaf q in
       let tags : d.meta.tags ≡ e.meta.tags = sym (shows_tags d leaf p) ∙ shows_tags e leaf q in
       let groups : d.meta.groups ≡ e.meta.groups = same_groups d.meta.groups e.meta.groups (sym (shows_groups d leaf p) ∙ shows_groups e leaf q) in
@@ -92,15 +92,15 @@ module _ (d e : Details) (leaf : Data) (v : IsDetailsValue d) (w : IsDetailsValu
         id = id i;
         version = version i;
         verbatim = verbatim i;
-        authors = (words i).authors;
-        description = (words i).description;
-        icon_url = (words i).icon_url;
-        license_url = (words i).license_url;
-        min_client = (words i).min_client;
-        project_url = (words i).project_url;
-        release_notes = (words i).release_notes;
-        summary = (words i).summary;
-        title = (words i).title;
+        authors = (texts i).prose.authors;
+        description = (texts i).prose.description;
+        icon_url = (texts i).addresses.icon_url;
+        license_url = (texts i).addresses.license_url;
+        min_client = (texts i).release.min_client;
+        project_url = (texts i).addresses.project_url;
+        release_notes = (texts i).release.release_notes;
+        summary = (texts i).prose.summary;
+        title = (texts i).prose.title;
         require_license = license i;
         tags = tags i;
         groups = groups i;

@@ -3,7 +3,6 @@ use fold_core::{Body, Commit, Details, Doc, Hive, Item, Many, NoMemory, docs_fro
 use pkg_meta::{Meta, Text, Ticks};
 use std::alloc::Global;
 use std::convert::AsStr;
-use std::mem;
 
 pub const BASE: &str = "http://f.test/";
 
@@ -30,10 +29,7 @@ fn gone_of(alloc: Global, details: &Details) -> Result<Item, NoMemory> {
 
 /// The delete of the version that this metadata is of.
 pub fn gone(alloc: Global, text: &str) -> Result<Item, NoMemory> {
-    let details = details(alloc, text, 1, 0)?;
-    let item = gone_of(alloc, &details);
-    mem::drop(details);
-    item
+    gone_of(alloc, &details(alloc, text, 1, 0)?)
 }
 
 pub fn commit(number: u32, items: Many<Item>) -> Commit {

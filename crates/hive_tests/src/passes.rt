@@ -5,7 +5,6 @@ use hive_state::read_state;
 use id_pass::{Body, Call, Item, NoMemory, Placed, Plan, Ticks, make_plan};
 use pkg_meta::Bytes;
 use std::alloc::{AllocError, Global};
-use std::mem;
 use std::process::Abort;
 use std::test::Fail;
 
@@ -79,16 +78,8 @@ fn one(alloc: Global, item: Placed) -> Result<Vec<Placed>, NoMemory> {
 // The calls of a pass from the state of these bytes, or from none where there is no byte.
 fn plan(alloc: Global, old: &[u8], items: &[Placed], target: u32) -> Result<Plan, NoMemory> {
     let state = read_state(alloc, old).ok();
-    let plan = make_plan::<Content>(
-        alloc,
-        "http://f.test/",
-        "foo",
-        state.as_ref(),
-        items,
-        target,
-    );
-    mem::drop(state);
-    plan
+    let state = state.as_ref();
+    make_plan::<Content>(alloc, "http://f.test/", "foo", state, items, target)
 }
 
 fn line_of(alloc: Global, call: &Call) -> Result<String, AllocError> {
